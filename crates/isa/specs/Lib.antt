@@ -1,0 +1,5 @@
+pub mod Answers
+pub mod Decode
+pub mod Encode
+pub mod RoundTrip
+pub mod Cases
