@@ -4,9 +4,6 @@ use native.Mathlib.Omega.{arith}
 use mathlib.Core.Logic.{⊎-elim}
 use Rattle.vectors_isa.proofs.count_all.Statement.{statement}
 use Rattle.vectors_isa.proofs.count_all.Tie as tie
-use Rattle.vectors_isa.proofs.count_all.Reads as reads
-use Rattle.vectors_isa.proofs.count_all.Lts as lts
-use Rattle.vectors_isa.proofs.sent_back.Reads as sent-back-reads
 
 abbrev Inv-loop : tie.InvT-loop
 Inv-loop back₀ elsewhere₀ word₀ back elsewhere word = (back ≤ word) × (elsewhere ≤ word) × (word ≤ 65535)
@@ -14,50 +11,39 @@ Inv-loop back₀ elsewhere₀ word₀ back elsewhere word = (back ≤ word) × (
 abbrev μ-loop : tie.MeasureT-loop
 μ-loop back₀ elsewhere₀ word₀ back elsewhere word = 65535 - word
 
--- src/main.rt:171:5
 loop-holds : tie.Need-loop-holds Inv-loop μ-loop
 loop-holds c = search needs
 
--- src/main.rt:172:15
 sent-back-requires : tie.Need-sent-back-requires Inv-loop μ-loop
 sent-back-requires c κs = search needs
 
 enum-told : tie.Need-enum-told Inv-loop μ-loop
 enum-told c = search needs
 
--- src/main.rt:175:17
 enum-told-2 : tie.Need-enum-told-2 Inv-loop μ-loop
 enum-told-2 c = search needs
 
--- src/main.rt:175:17
 add-back : tie.Need-add-back Inv-loop μ-loop
 add-back c = search needs
 
--- src/main.rt:178:17
 enum-told-3 : tie.Need-enum-told-3 Inv-loop μ-loop
 enum-told-3 c = search needs
 
--- src/main.rt:178:17
 add-elsewhere : tie.Need-add-elsewhere Inv-loop μ-loop
 add-elsewhere c = search needs
 
--- src/main.rt:171:9
 add-word : tie.Need-add-word Inv-loop μ-loop
 add-word c = search needs
 
--- src/main.rt:171:5
 loop-less : tie.Need-loop-less Inv-loop μ-loop
 loop-less c = search needs
 
--- src/main.rt:171:5
 loop-again : tie.Need-loop-again Inv-loop μ-loop
 loop-again c = ⊎-elim (λ w. omega arith) (⊎-elim (λ w. omega arith) (λ w. omega arith)) (c .before .match .came)
 
--- src/main.rt:168:1
 returns : tie.Need-returns Inv-loop μ-loop
 returns c = search needs
 
--- src/main.rt:168:1
 returns-2 : tie.Need-returns-2 Inv-loop μ-loop
 returns-2 c = search needs
 

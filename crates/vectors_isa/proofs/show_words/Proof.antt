@@ -3,9 +3,6 @@ use lib.ListN.{length}
 use borrow.Author.Needs.{needs}
 use Rattle.vectors_isa.proofs.show_words.Statement.{statement}
 use Rattle.vectors_isa.proofs.show_words.Tie as tie
-use Rattle.vectors_isa.proofs.show_words.Reads as reads
-use Rattle.vectors_isa.proofs.show_words.Lts as lts
-use Rattle.vectors_isa.proofs.show_word.Reads as show-word-reads
 
 abbrev Inv-loop : tie.InvT-loop
 Inv-loop words i₀ i = i ≤ length words
@@ -13,35 +10,27 @@ Inv-loop words i₀ i = i ≤ length words
 abbrev μ-loop : tie.MeasureT-loop
 μ-loop words i₀ i = length words - i
 
--- src/main.rt:195:5
 loop-holds : tie.Need-loop-holds Inv-loop μ-loop
 loop-holds c = search needs
 
--- src/main.rt:196:19
 mul-show-word : tie.Need-mul-show-word Inv-loop μ-loop
 mul-show-word c = search needs
 
--- src/main.rt:196:19
 shared-slice-read-show-word : tie.Need-shared-slice-read-show-word Inv-loop μ-loop
 shared-slice-read-show-word c = search needs
 
--- src/main.rt:196:9
 show-word-requires : tie.Need-show-word-requires Inv-loop μ-loop
 show-word-requires c κs = search needs
 
--- src/main.rt:197:9
 add-i : tie.Need-add-i Inv-loop μ-loop
 add-i c = search needs
 
--- src/main.rt:195:5
 loop-less : tie.Need-loop-less Inv-loop μ-loop
 loop-less c = search needs
 
--- src/main.rt:195:5
 loop-again : tie.Need-loop-again Inv-loop μ-loop
 loop-again c = search needs
 
--- src/main.rt:193:1
 returns : tie.Need-returns Inv-loop μ-loop
 returns c = search needs
 

@@ -3,40 +3,31 @@ use mathlib.Core.Path.{sym}
 use native.Mathlib.Omega.{arith}
 use Rattle.isa.proofs.decoder.alu_op.Statement.{statement}
 use Rattle.isa.proofs.decoder.alu_op.Tie as tie
-use Rattle.isa.proofs.decoder.alu_op.Reads as reads
-use Rattle.isa.proofs.decoder.alu_op.Lts as lts
 
--- src/decoder.rt:15:1
 returns : tie.Need-returns
 unfolding wordOf
 returns c = λ h. sym (c .match .keys1)
 
--- src/decoder.rt:15:1
 returns-2 : tie.Need-returns-2
 unfolding wordOf
 returns-2 c = λ h. sym (c .match .keys2)
 
--- src/decoder.rt:15:1
 returns-3 : tie.Need-returns-3
 unfolding wordOf
 returns-3 c = λ h. sym (c .match .keys3)
 
--- src/decoder.rt:15:1
 returns-4 : tie.Need-returns-4
 unfolding wordOf
 returns-4 c = λ h. sym (c .match .keys4)
 
--- src/decoder.rt:15:1
 returns-5 : tie.Need-returns-5
 unfolding wordOf
 returns-5 c = λ h. sym (c .match .keys5)
 
--- src/decoder.rt:15:1
 returns-6 : tie.Need-returns-6
 unfolding wordOf
 returns-6 c = λ h. sym (c .match .keys6)
 
--- src/decoder.rt:15:1
 returns-7 : tie.Need-returns-7
 unfolding wordOf
 returns-7 c = λ h. omega arith

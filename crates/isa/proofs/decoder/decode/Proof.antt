@@ -7,112 +7,86 @@ use Rattle.isa.specs.Decode.{decodeOf, entryOf, overview}
 use borrow.Author.Needs.{needs}
 use Rattle.isa.proofs.decoder.decode.Statement.{statement}
 use Rattle.isa.proofs.decoder.decode.Tie as tie
-use Rattle.isa.proofs.decoder.decode.Reads as reads
-use Rattle.isa.proofs.decoder.decode.Lts as lts
-use Rattle.isa.proofs.decoder.alu_op.Reads as alu-op-reads
-use Rattle.isa.proofs.decoder.group_word.Reads as group-word-reads
 
--- src/decoder.rt:68:13
 cast-m : tie.Need-cast-m
 cast-m c = search needs
 
--- src/decoder.rt:69:13
 cast-x : tie.Need-cast-x
 cast-x c = search needs
 
--- src/decoder.rt:76:14
 group-word-requires : tie.Need-group-word-requires
 group-word-requires c κs = search needs
 
--- src/decoder.rt:72:17
 alu-op-requires : tie.Need-alu-op-requires
 alu-op-requires c κs = search needs
 
--- src/decoder.rt:91:17
 alu-op-requires-2 : tie.Need-alu-op-requires-2
 alu-op-requires-2 c κs = search needs
 
--- src/decoder.rt:64:1
 returns : tie.Need-returns
 unfolding decodeOf entryOf overview
 returns c = rw (c .before .match .keys1) (c .group-word .ensures)
 
--- src/decoder.rt:64:1
 returns-2 : tie.Need-returns-2
 unfolding decodeOf entryOf overview
 returns-2 c = rw (c .match .keys2)
 
--- src/decoder.rt:64:1
 returns-3 : tie.Need-returns-3
 unfolding decodeOf entryOf overview
 returns-3 c = rw (c .match .keys3)
 
--- src/decoder.rt:64:1
 returns-4 : tie.Need-returns-4
 unfolding decodeOf entryOf overview
 returns-4 c = rw (c .match .keys4)
 
--- src/decoder.rt:64:1
 returns-5 : tie.Need-returns-5
 unfolding decodeOf entryOf overview
 returns-5 c = rw (c .match .keys5)
 
--- src/decoder.rt:64:1
 returns-6 : tie.Need-returns-6
 unfolding decodeOf entryOf overview
 returns-6 c = rw (c .match .keys6)
 
--- src/decoder.rt:64:1
 returns-7 : tie.Need-returns-7
 unfolding decodeOf entryOf overview
 returns-7 c = rw (c .match .keys7)
 
--- src/decoder.rt:64:1
 returns-8 : tie.Need-returns-8
 unfolding decodeOf entryOf overview
 returns-8 c = rw (c .match .keys8)
 
--- src/decoder.rt:64:1
 returns-9 : tie.Need-returns-9
 unfolding decodeOf entryOf overview
 returns-9 c = rw (c .match .keys9)
 
--- src/decoder.rt:64:1
 returns-10 : tie.Need-returns-10
 unfolding decodeOf entryOf overview
 returns-10 c = rw (c .match .keys10)
 
--- src/decoder.rt:64:1
 returns-11 : tie.Need-returns-11
 unfolding decodeOf entryOf overview
 returns-11 c = rw (c .match .keys11)
 
--- src/decoder.rt:64:1
 returns-12 : tie.Need-returns-12
 unfolding decodeOf entryOf overview
 returns-12 c = rw (c .match .keys12)
 
--- src/decoder.rt:64:1
 returns-13 : tie.Need-returns-13
 unfolding decodeOf entryOf overview
 returns-13 c = rw (c .match .keys13)
 
--- src/decoder.rt:64:1
 returns-14 : tie.Need-returns-14
 unfolding decodeOf entryOf overview
 returns-14 c = rw (c .match .keys14)
 
--- src/decoder.rt:64:1
 returns-15 : tie.Need-returns-15
 unfolding decodeOf
 returns-15 c = register _ _ _ _ _ (c .alu-op .ensures (omega arith))
 
--- src/decoder.rt:64:1
 returns-16 : tie.Need-returns-16
 unfolding decodeOf
 returns-16 c = immediate _ _ _ _ _ (c .before .before .if2 .left) (c .alu-op2 .ensures (below-seven _ (c .before .if3 .taken)))
 
--- src/decoder.rt:64:1
 returns-17 : tie.Need-returns-17
 unfolding decodeOf
 returns-17 c =
@@ -120,7 +94,6 @@ returns-17 c =
     unlisted _ _ _ _ (op-below (s .args .word) (s .fits .word .fits)) (c .before .before .match .rest)
     (inr (c .before .if1 .left), (inl (c .if2 .taken), tt))
 
--- src/decoder.rt:64:1
 returns-18 : tie.Need-returns-18
 unfolding decodeOf
 returns-18 c =

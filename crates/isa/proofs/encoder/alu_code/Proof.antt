@@ -4,68 +4,52 @@ use Rattle.isa.specs.Encode.{wordOf}
 use borrow.Author.Needs.{needs}
 use Rattle.isa.proofs.encoder.alu_code.Statement.{statement}
 use Rattle.isa.proofs.encoder.alu_code.Tie as tie
-use Rattle.isa.proofs.encoder.alu_code.Reads as reads
-use Rattle.isa.proofs.encoder.alu_code.Lts as lts
 
--- src/encoder.rt:19:23
 enum-told : tie.Need-enum-told
 enum-told c = search needs
 
--- src/encoder.rt:20:24
 enum-told-2 : tie.Need-enum-told-2
 enum-told-2 c = search needs
 
--- src/encoder.rt:21:23
 enum-told-3 : tie.Need-enum-told-3
 enum-told-3 c = search needs
 
--- src/encoder.rt:22:24
 enum-told-4 : tie.Need-enum-told-4
 enum-told-4 c = search needs
 
--- src/encoder.rt:23:22
 enum-told-5 : tie.Need-enum-told-5
 enum-told-5 c = search needs
 
--- src/encoder.rt:24:23
 enum-told-6 : tie.Need-enum-told-6
 enum-told-6 c = search needs
 
--- src/encoder.rt:25:23
 enum-told-7 : tie.Need-enum-told-7
 enum-told-7 c = search needs
 
--- src/encoder.rt:15:1
 returns : tie.Need-returns
 unfolding wordOf
 returns c = rw (c .enum-told .given .1) (refl, lit< tt)
 
--- src/encoder.rt:15:1
 returns-2 : tie.Need-returns-2
 unfolding wordOf
 returns-2 c = rw (c .enum-told2 .given .1) (refl, lit< tt)
 
--- src/encoder.rt:15:1
 returns-3 : tie.Need-returns-3
 unfolding wordOf
 returns-3 c = rw (c .enum-told3 .given .1) (refl, lit< tt)
 
--- src/encoder.rt:15:1
 returns-4 : tie.Need-returns-4
 unfolding wordOf
 returns-4 c = rw (c .enum-told4 .given .1) (refl, lit< tt)
 
--- src/encoder.rt:15:1
 returns-5 : tie.Need-returns-5
 unfolding wordOf
 returns-5 c = rw (c .enum-told5 .given .1) (refl, lit< tt)
 
--- src/encoder.rt:15:1
 returns-6 : tie.Need-returns-6
 unfolding wordOf
 returns-6 c = rw (c .enum-told6 .given .1) (refl, lit< tt)
 
--- src/encoder.rt:15:1
 returns-7 : tie.Need-returns-7
 unfolding wordOf
 returns-7 c = rw (c .enum-told7 .given .1) (refl, lit< tt)

@@ -4,261 +4,195 @@ use Rattle.isa.specs.Encode.{encodeOf, fits}
 use borrow.Author.Needs.{needs}
 use Rattle.isa.proofs.encoder.encode.Statement.{statement}
 use Rattle.isa.proofs.encoder.encode.Tie as tie
-use Rattle.isa.proofs.encoder.encode.Reads as reads
-use Rattle.isa.proofs.encoder.encode.Lts as lts
-use Rattle.isa.proofs.encoder.alu_code.Reads as alu-code-reads
-use Rattle.isa.proofs.encoder.around.Reads as around-reads
-use Rattle.isa.proofs.encoder.fixed.Reads as fixed-reads
-use Rattle.isa.proofs.encoder.skip_code.Reads as skip-code-reads
-use Rattle.isa.proofs.encoder.with_address.Reads as with-address-reads
-use Rattle.isa.proofs.encoder.with_target.Reads as with-target-reads
 
--- src/encoder.rt:106:36
 enum-known-instruction : tie.Need-enum-known-instruction
 enum-known-instruction c = search needs
 
--- src/encoder.rt:106:63
 alu-code-requires : tie.Need-alu-code-requires
 alu-code-requires c κs = search needs
 
--- src/encoder.rt:106:50
 with-address-requires : tie.Need-with-address-requires
 with-address-requires c κs = search needs
 
--- src/encoder.rt:107:37
 enum-known-instruction-2 : tie.Need-enum-known-instruction-2
 enum-known-instruction-2 c = search needs
 
--- src/encoder.rt:107:75
 alu-code-requires-2 : tie.Need-alu-code-requires-2
 alu-code-requires-2 c κs = search needs
 
--- src/encoder.rt:107:65
 add-with-address : tie.Need-add-with-address
 add-with-address c = search needs
 
--- src/encoder.rt:107:52
 with-address-requires-2 : tie.Need-with-address-requires-2
 with-address-requires-2 c κs = search needs
 
--- src/encoder.rt:108:29
 enum-known-instruction-3 : tie.Need-enum-known-instruction-3
 enum-known-instruction-3 c = search needs
 
--- src/encoder.rt:108:57
 skip-code-requires : tie.Need-skip-code-requires
 skip-code-requires c κs = search needs
 
--- src/encoder.rt:108:44
 with-address-requires-3 : tie.Need-with-address-requires-3
 with-address-requires-3 c κs = search needs
 
--- src/encoder.rt:109:27
 enum-known-instruction-4 : tie.Need-enum-known-instruction-4
 enum-known-instruction-4 c = search needs
 
--- src/encoder.rt:109:33
 with-address-requires-4 : tie.Need-with-address-requires-4
 with-address-requires-4 c κs = search needs
 
--- src/encoder.rt:110:27
 enum-known-instruction-5 : tie.Need-enum-known-instruction-5
 enum-known-instruction-5 c = search needs
 
--- src/encoder.rt:110:37
 with-address-requires-5 : tie.Need-with-address-requires-5
 with-address-requires-5 c κs = search needs
 
--- src/encoder.rt:111:27
 enum-known-instruction-6 : tie.Need-enum-known-instruction-6
 enum-known-instruction-6 c = search needs
 
--- src/encoder.rt:111:37
 with-address-requires-6 : tie.Need-with-address-requires-6
 with-address-requires-6 c κs = search needs
 
--- src/encoder.rt:112:38
 enum-known-instruction-7 : tie.Need-enum-known-instruction-7
 enum-known-instruction-7 c = search needs
 
--- src/encoder.rt:112:48
 with-address-requires-7 : tie.Need-with-address-requires-7
 with-address-requires-7 c κs = search needs
 
--- src/encoder.rt:113:40
 enum-known-instruction-8 : tie.Need-enum-known-instruction-8
 enum-known-instruction-8 c = search needs
 
--- src/encoder.rt:113:50
 with-address-requires-8 : tie.Need-with-address-requires-8
 with-address-requires-8 c κs = search needs
 
--- src/encoder.rt:114:37
 enum-known-instruction-9 : tie.Need-enum-known-instruction-9
 enum-known-instruction-9 c = search needs
 
--- src/encoder.rt:114:48
 with-address-requires-9 : tie.Need-with-address-requires-9
 with-address-requires-9 c κs = search needs
 
--- src/encoder.rt:115:27
 enum-known-instruction-10 : tie.Need-enum-known-instruction-10
 enum-known-instruction-10 c = search needs
 
--- src/encoder.rt:115:34
 around-requires : tie.Need-around-requires
 around-requires c κs = search needs
 
--- src/encoder.rt:116:27
 enum-known-instruction-11 : tie.Need-enum-known-instruction-11
 enum-known-instruction-11 c = search needs
 
--- src/encoder.rt:116:34
 around-requires-2 : tie.Need-around-requires-2
 around-requires-2 c κs = search needs
 
--- src/encoder.rt:117:26
 enum-known-instruction-12 : tie.Need-enum-known-instruction-12
 enum-known-instruction-12 c = search needs
 
--- src/encoder.rt:117:32
 around-requires-3 : tie.Need-around-requires-3
 around-requires-3 c κs = search needs
 
--- src/encoder.rt:118:26
 enum-known-instruction-13 : tie.Need-enum-known-instruction-13
 enum-known-instruction-13 c = search needs
 
--- src/encoder.rt:118:32
 around-requires-4 : tie.Need-around-requires-4
 around-requires-4 c κs = search needs
 
--- src/encoder.rt:119:25
 enum-known-instruction-14 : tie.Need-enum-known-instruction-14
 enum-known-instruction-14 c = search needs
 
--- src/encoder.rt:119:34
 with-target-requires : tie.Need-with-target-requires
 with-target-requires c κs = search needs
 
--- src/encoder.rt:120:27
 enum-known-instruction-15 : tie.Need-enum-known-instruction-15
 enum-known-instruction-15 c = search needs
 
--- src/encoder.rt:120:36
 with-target-requires-2 : tie.Need-with-target-requires-2
 with-target-requires-2 c κs = search needs
 
--- src/encoder.rt:121:27
 enum-known-instruction-16 : tie.Need-enum-known-instruction-16
 enum-known-instruction-16 c = search needs
 
--- src/encoder.rt:121:33
 with-address-requires-10 : tie.Need-with-address-requires-10
 with-address-requires-10 c κs = search needs
 
--- src/encoder.rt:122:27
 enum-known-instruction-17 : tie.Need-enum-known-instruction-17
 enum-known-instruction-17 c = search needs
 
--- src/encoder.rt:122:33
 with-address-requires-11 : tie.Need-with-address-requires-11
 with-address-requires-11 c κs = search needs
 
--- src/encoder.rt:123:28
 enum-known-instruction-18 : tie.Need-enum-known-instruction-18
 enum-known-instruction-18 c = search needs
 
--- src/encoder.rt:123:49
 fixed-requires : tie.Need-fixed-requires
 fixed-requires c κs = search needs
 
--- src/encoder.rt:102:1
 returns : tie.Need-returns
 unfolding encodeOf fits
 returns c = rw (c .before .before .before .instruction .given .1, register, ← c .before .alu-code .ensures .0) (c .with-address .ensures)
 
--- src/encoder.rt:102:1
 returns-2 : tie.Need-returns-2
 unfolding encodeOf fits
 returns-2 c = rw (c .before .before .before .instruction2 .given .1, immediate, ← c .before .alu-code2 .ensures .0) (c .with-address2 .ensures)
 
--- src/encoder.rt:102:1
 returns-3 : tie.Need-returns-3
 unfolding encodeOf fits
 returns-3 c = rw (c .before .before .before .instruction3 .given .1, skip, ← c .before .skip-code .ensures .0) (c .with-address3 .ensures)
 
--- src/encoder.rt:102:1
 returns-4 : tie.Need-returns-4
 unfolding encodeOf fits wordOf
 returns-4 c = rw (c .before .before .instruction4 .given .1) (c .with-address4 .ensures)
 
--- src/encoder.rt:102:1
 returns-5 : tie.Need-returns-5
 unfolding encodeOf fits wordOf
 returns-5 c = rw (c .before .before .instruction5 .given .1) (c .with-address5 .ensures)
 
--- src/encoder.rt:102:1
 returns-6 : tie.Need-returns-6
 unfolding encodeOf fits wordOf
 returns-6 c = rw (c .before .before .instruction6 .given .1) (c .with-address6 .ensures)
 
--- src/encoder.rt:102:1
 returns-7 : tie.Need-returns-7
 unfolding encodeOf fits wordOf
 returns-7 c = rw (c .before .before .instruction7 .given .1) (c .with-address7 .ensures)
 
--- src/encoder.rt:102:1
 returns-8 : tie.Need-returns-8
 unfolding encodeOf fits wordOf
 returns-8 c = rw (c .before .before .instruction8 .given .1) (c .with-address8 .ensures)
 
--- src/encoder.rt:102:1
 returns-9 : tie.Need-returns-9
 unfolding encodeOf fits wordOf
 returns-9 c = rw (c .before .before .instruction9 .given .1) (c .with-address9 .ensures)
 
--- src/encoder.rt:102:1
 returns-10 : tie.Need-returns-10
 unfolding encodeOf fits wordOf
 returns-10 c = rw (c .before .before .instruction10 .given .1) (c .around .ensures)
 
--- src/encoder.rt:102:1
 returns-11 : tie.Need-returns-11
 unfolding encodeOf fits wordOf
 returns-11 c = rw (c .before .before .instruction11 .given .1) (c .around2 .ensures)
 
--- src/encoder.rt:102:1
 returns-12 : tie.Need-returns-12
 unfolding encodeOf fits wordOf
 returns-12 c = rw (c .before .before .instruction12 .given .1) (c .around3 .ensures)
 
--- src/encoder.rt:102:1
 returns-13 : tie.Need-returns-13
 unfolding encodeOf fits wordOf
 returns-13 c = rw (c .before .before .instruction13 .given .1) (c .around4 .ensures)
 
--- src/encoder.rt:102:1
 returns-14 : tie.Need-returns-14
 unfolding encodeOf fits wordOf
 returns-14 c = rw (c .before .before .instruction14 .given .1) (c .with-target .ensures)
 
--- src/encoder.rt:102:1
 returns-15 : tie.Need-returns-15
 unfolding encodeOf fits wordOf
 returns-15 c = rw (c .before .before .instruction15 .given .1) (c .with-target2 .ensures)
 
--- src/encoder.rt:102:1
 returns-16 : tie.Need-returns-16
 unfolding encodeOf fits wordOf
 returns-16 c = rw (c .before .before .instruction16 .given .1) (c .with-address10 .ensures)
 
--- src/encoder.rt:102:1
 returns-17 : tie.Need-returns-17
 unfolding encodeOf fits wordOf
 returns-17 c = rw (c .before .before .instruction17 .given .1) (c .with-address11 .ensures)
 
--- src/encoder.rt:102:1
 returns-18 : tie.Need-returns-18
 unfolding encodeOf fits wordOf
 returns-18 c = rw (c .before .before .instruction18 .given .1, ← c .fixed .ensures)

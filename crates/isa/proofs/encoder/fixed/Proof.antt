@@ -2,122 +2,94 @@ use Rattle.isa.specs.Encode.{wordOf}
 use borrow.Author.Needs.{needs}
 use Rattle.isa.proofs.encoder.fixed.Statement.{statement}
 use Rattle.isa.proofs.encoder.fixed.Tie as tie
-use Rattle.isa.proofs.encoder.fixed.Reads as reads
-use Rattle.isa.proofs.encoder.fixed.Lts as lts
 
--- src/encoder.rt:47:27
 enum-told : tie.Need-enum-told
 enum-told c = search needs
 
--- src/encoder.rt:48:27
 enum-told-2 : tie.Need-enum-told-2
 enum-told-2 c = search needs
 
--- src/encoder.rt:49:26
 enum-told-3 : tie.Need-enum-told-3
 enum-told-3 c = search needs
 
--- src/encoder.rt:50:28
 enum-told-4 : tie.Need-enum-told-4
 enum-told-4 c = search needs
 
--- src/encoder.rt:51:27
 enum-told-5 : tie.Need-enum-told-5
 enum-told-5 c = search needs
 
--- src/encoder.rt:52:26
 enum-told-6 : tie.Need-enum-told-6
 enum-told-6 c = search needs
 
--- src/encoder.rt:53:28
 enum-told-7 : tie.Need-enum-told-7
 enum-told-7 c = search needs
 
--- src/encoder.rt:54:25
 enum-told-8 : tie.Need-enum-told-8
 enum-told-8 c = search needs
 
--- src/encoder.rt:55:27
 enum-told-9 : tie.Need-enum-told-9
 enum-told-9 c = search needs
 
--- src/encoder.rt:56:26
 enum-told-10 : tie.Need-enum-told-10
 enum-told-10 c = search needs
 
--- src/encoder.rt:57:24
 enum-told-11 : tie.Need-enum-told-11
 enum-told-11 c = search needs
 
--- src/encoder.rt:58:24
 enum-told-12 : tie.Need-enum-told-12
 enum-told-12 c = search needs
 
--- src/encoder.rt:59:25
 enum-told-13 : tie.Need-enum-told-13
 enum-told-13 c = search needs
 
--- src/encoder.rt:43:1
 returns : tie.Need-returns
 unfolding wordOf
 returns c = rw (c .enum-told .given .1)
 
--- src/encoder.rt:43:1
 returns-2 : tie.Need-returns-2
 unfolding wordOf
 returns-2 c = rw (c .enum-told2 .given .1)
 
--- src/encoder.rt:43:1
 returns-3 : tie.Need-returns-3
 unfolding wordOf
 returns-3 c = rw (c .enum-told3 .given .1)
 
--- src/encoder.rt:43:1
 returns-4 : tie.Need-returns-4
 unfolding wordOf
 returns-4 c = rw (c .enum-told4 .given .1)
 
--- src/encoder.rt:43:1
 returns-5 : tie.Need-returns-5
 unfolding wordOf
 returns-5 c = rw (c .enum-told5 .given .1)
 
--- src/encoder.rt:43:1
 returns-6 : tie.Need-returns-6
 unfolding wordOf
 returns-6 c = rw (c .enum-told6 .given .1)
 
--- src/encoder.rt:43:1
 returns-7 : tie.Need-returns-7
 unfolding wordOf
 returns-7 c = rw (c .enum-told7 .given .1)
 
--- src/encoder.rt:43:1
 returns-8 : tie.Need-returns-8
 unfolding wordOf
 returns-8 c = rw (c .enum-told8 .given .1)
 
--- src/encoder.rt:43:1
 returns-9 : tie.Need-returns-9
 unfolding wordOf
 returns-9 c = rw (c .enum-told9 .given .1)
 
--- src/encoder.rt:43:1
 returns-10 : tie.Need-returns-10
 unfolding wordOf
 returns-10 c = rw (c .enum-told10 .given .1)
 
--- src/encoder.rt:43:1
 returns-11 : tie.Need-returns-11
 unfolding wordOf
 returns-11 c = rw (c .enum-told11 .given .1)
 
--- src/encoder.rt:43:1
 returns-12 : tie.Need-returns-12
 unfolding wordOf
 returns-12 c = rw (c .enum-told12 .given .1)
 
--- src/encoder.rt:43:1
 returns-13 : tie.Need-returns-13
 unfolding wordOf
 returns-13 c = rw (c .enum-told13 .given .1)

@@ -4,34 +4,25 @@ use Rattle.isa.proofs.Words.{side-by-side}
 use borrow.Author.Needs.{needs}
 use Rattle.isa.proofs.encoder.with_address.Statement.{statement}
 use Rattle.isa.proofs.encoder.with_address.Tie as tie
-use Rattle.isa.proofs.encoder.with_address.Reads as reads
-use Rattle.isa.proofs.encoder.with_address.Lts as lts
 
--- src/encoder.rt:69:9
 returns : tie.Need-returns
 returns c = simp (le-ltb _ _ (c .if1 .taken))
 
--- src/encoder.rt:72:9
 returns-2 : tie.Need-returns-2
 returns-2 c = simp (le-ltb _ _ (c .if2 .taken), and-false)
 
--- src/encoder.rt:74:19
 mul-t5 : tie.Need-mul-t5
 mul-t5 c = search needs
 
--- src/encoder.rt:74:31
 mul-t7 : tie.Need-mul-t7
 mul-t7 c = search needs
 
--- src/encoder.rt:74:19
 add-t8 : tie.Need-add-t8
 add-t8 c = search needs
 
--- src/encoder.rt:74:19
 add-t10 : tie.Need-add-t10
 add-t10 c = search needs
 
--- src/encoder.rt:64:1
 returns-3 : tie.Need-returns-3
 returns-3 c = simp (lt-ltb _ _ (c .before .if1 .left), lt-ltb _ _ (c .if2 .left), side-by-side)
 

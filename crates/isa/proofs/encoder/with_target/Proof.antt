@@ -2,22 +2,16 @@ use borrow.Author.Tests.{le-ltb, lt-ltb}
 use borrow.Author.Needs.{needs}
 use Rattle.isa.proofs.encoder.with_target.Statement.{statement}
 use Rattle.isa.proofs.encoder.with_target.Tie as tie
-use Rattle.isa.proofs.encoder.with_target.Reads as reads
-use Rattle.isa.proofs.encoder.with_target.Lts as lts
 
--- src/encoder.rt:83:9
 returns : tie.Need-returns
 returns c = simp (le-ltb _ _ (c .if1 .taken))
 
--- src/encoder.rt:85:19
 mul-t4 : tie.Need-mul-t4
 mul-t4 c = search needs
 
--- src/encoder.rt:85:19
 add-t5 : tie.Need-add-t5
 add-t5 c = search needs
 
--- src/encoder.rt:78:1
 returns-2 : tie.Need-returns-2
 returns-2 c = simp (lt-ltb _ _ (c .if1 .left))
 
