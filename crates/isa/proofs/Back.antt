@@ -4,7 +4,7 @@ use mathlib.Core.Path.{_≡_, subst}
 use mathlib.Core.Bool.{Bool, true, false, _&&_}
 use Prim.Native.Nat.{ℕ, _<_}
 use lib.Dec.{T, eqb, eqb→eq}
-use Rattle.laws.proofs.Every.{every-at, and-left, and-right}
+use Rattle.laws.proofs.Every.{every-at, and-left, and-right, holds}
 use Rattle.isa.specs.Answers.{Decoding, is, refused}
 use Rattle.isa.specs.Decode.{decodeOf, entryOf, overview, columns}
 use Rattle.isa.specs.Encode.{wordOf, fits}
@@ -14,13 +14,9 @@ abbrev itsWord : ℕ → Decoding → Bool
 itsWord w (is i) = eqb (wordOf i) w && fits i
 itsWord w (refused n) = true
 
-passed : (b : Bool) → T b → b ≡ true
-passed true t = λ _. true
-passed false t = absurd t
-
 pub back : (w : ℕ) (i : Instruction) → w < 65536 → decodeOf w ≡ is i → (wordOf i ≡ w) × (fits i ≡ true)
 unfolding decodeOf entryOf overview columns wordOf fits
 back w i h e =
     let t : T (eqb (wordOf i) w && fits i)
     = subst (λ (d : Decoding). T (itsWord w d)) e (every-at (λ (v : ℕ). itsWord v (decodeOf v)) 65536 tt w h) in
-    (eqb→eq (wordOf i) w (and-left (eqb (wordOf i) w) (fits i) t), passed (fits i) (and-right (eqb (wordOf i) w) (fits i) t))
+    (eqb→eq (wordOf i) w (and-left (eqb (wordOf i) w) (fits i) t), holds (and-right (eqb (wordOf i) w) (fits i) t))

@@ -9,7 +9,8 @@ use mathlib.Core.Logic.{_⊎_, ⊎-elim}
 use mir.Val.{hasKey}
 use types.Run.{OneOf, hit}
 use lib.Dec.{T, ltb, leb, ltb→lt, leb→le}
-use Rattle.laws.proofs.Every.{every, every-at, and-left, and-right}
+use Rattle.laws.specs.Every.{every}
+use Rattle.laws.proofs.Every.{every-at, and-left, and-right}
 
 pub or-else : (a b : Bool) → (T a → ⊥) → T (a || b) → T b
 or-else true b h t = absurd (h tt)

@@ -1,11 +1,13 @@
--- A test that is computed at each number below a bound, and the law that takes it to one of them.
+-- A test at each number below a bound holds at one of them; and the other way.
 -- Assumes nothing.
-use mathlib.Core.Path.{_≡_, subst, sym}
+use mathlib.Core.Path.{_≡_, _∙_, ap, subst, sym}
 use mathlib.Core.Logic.{⊎-elim}
-use mathlib.Core.Bool.{Bool, true, false, _&&_}
-use Prim.Native.Nat.{ℕ, zero, suc, _<_}
-use native.Mathlib.Nat.{eq-or-lt-of-le, le-of-suc-le-suc, not-suc-le-zero}
-use lib.Dec.{T}
+use mathlib.Core.Bool.{Bool, true, false, _&&_, cond}
+use Prim.Native.Nat.{ℕ, zero, suc, _+_, _<_}
+use native.Mathlib.Nat.{add-zero, eq-or-lt-of-le, le-of-suc-le-suc, le-refl, le-step, not-suc-le-zero}
+use native.Mathlib.Numerals.{add-one}
+use lib.Dec.{T, eqb, eqb·suc-zero}
+use Rattle.laws.specs.Every.{every, failures}
 
 pub and-left : (a b : Bool) → T (a && b) → T a
 and-left true b t = tt
@@ -15,13 +17,37 @@ pub and-right : (a b : Bool) → T (a && b) → T b
 and-right true b t = t
 and-right false b t = absurd t
 
--- f passes at 0 to n - 1
-abbrev pub every : (ℕ → Bool) → ℕ → Bool
-every f zero = true
-every f (suc n) = f n && every f n
-
 pub every-at : (f : ℕ → Bool) (n : ℕ) → T (every f n) → (k : ℕ) → k < n → T (f k)
 every-at f zero t k h = absurd (not-suc-le-zero h)
 every-at f (suc n) t k h =
     ⊎-elim (λ (e : k ≡ n). subst (λ (j : ℕ). T (f j)) (sym e) (and-left (f n) (every f n) t))
     (λ (l : k < n). every-at f n (and-right (f n) (every f n) t) k l) (eq-or-lt-of-le (le-of-suc-le-suc h))
+
+pub and-both : (a b : Bool) → T a → T b → T (a && b)
+and-both true b s t = t
+and-both false b s t = s
+
+pub every-of : (f : ℕ → Bool) (n : ℕ) → ((k : ℕ) → k < n → T (f k)) → T (every f n)
+every-of f zero h = tt
+every-of f (suc n) h =
+    and-both (f n) (every f n) (h n (le-refl (suc n))) (every-of f n (λ k l. h k (le-step l)))
+
+one-more : (b : Bool) (n : ℕ) (rest : Bool) → eqb n 0 ≡ rest → eqb (n + cond b 0 1) 0 ≡ (b && rest)
+one-more true n rest e = ap (λ (m : ℕ). eqb m 0) (add-zero n) ∙ e
+one-more false n rest e = ap (λ (m : ℕ). eqb m 0) (add-one n) ∙ eqb·suc-zero n
+
+-- a count of the failures tells whether there is none
+pub no-failures : (f : ℕ → Bool) (n : ℕ) → eqb (failures f n) 0 ≡ every f n
+no-failures f zero = λ _. true
+no-failures f (suc n) = one-more (f n) (failures f n) (every f n) (no-failures f n)
+
+-- a test as an equation and as a type
+pub passed : {b : Bool} → b ≡ true → T b
+passed e = subst T (sym e) tt
+
+pub holds : {b : Bool} → T b → b ≡ true
+holds {b} t = go b t
+  where
+    go : (x : Bool) → T x → x ≡ true
+    go true u = λ _. true
+    go false u = absurd u

@@ -1,0 +1,4 @@
+pub mod Difference
+pub mod Decimal
+pub mod Results
+pub mod Rows

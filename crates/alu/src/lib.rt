@@ -1,0 +1,192 @@
+// Operations on nibbles: document 01, "Results". What a flag or a cell is, the memory knows; here are numbers and bits.
+ghost use mathlib.Core.Path.{_≡_};
+ghost use mathlib.Core.Bool.{cond};
+ghost use Prim.Native.Nat.{_<_};
+ghost use Rattle.alu.specs.Results.{addOf, subtractOf, operateOf, rotateOf, zeroOf, skipsOf};
+ghost use Rattle.alu.specs.Decimal.{decimalSum, decimalDifference};
+ghost use Rattle.alu.specs.Rows.{rowDifference};
+use isa::AluOp;
+use isa::SkipOp;
+
+// A result of four bits, and CY.
+pub struct Outcome {
+    pub result: u8,
+    pub carry: bool,
+}
+
+// The decimal results of the sums 0 to 31, in the order of source 001's table.
+const SUMS: [u8; 32] = [
+    0x0,
+    0x1,
+    0x2,
+    0x3,
+    0x4,
+    0x5,
+    0x6,
+    0x7,
+    0x8,
+    0x9,
+    0x0,
+    0x1,
+    0x2,
+    0x3,
+    0x4,
+    0x5,
+    0x6,
+    0x7,
+    0x8,
+    0x9,
+    0xE,
+    0xF,
+    0xC,
+    0xD,
+    0xE,
+    0xF,
+    0xC,
+    0xD,
+    0xA,
+    0xB,
+    0xC,
+    0xD,
+];
+
+// The decimal results of the differences 0 to 15, then -16 to -1.
+const DIFFERENCES: [u8; 32] = [
+    0x0,
+    0x1,
+    0x2,
+    0x3,
+    0x4,
+    0x5,
+    0x6,
+    0x7,
+    0x8,
+    0x9,
+    0xC,
+    0xD,
+    0xE,
+    0xF,
+    0xC,
+    0xD,
+    0xE,
+    0xF,
+    0xC,
+    0xD,
+    0xE,
+    0xF,
+    0x0,
+    0x1,
+    0x2,
+    0x3,
+    0x4,
+    0x5,
+    0x6,
+    0x7,
+    0x8,
+    0x9,
+];
+
+// The decimal correction of a row of the table: a sum, or a difference in the table's order.
+fn decimal(subtracts: bool, row: u8) -> Outcome
+    requires { ⌜ row < 32 ⌝ }
+    ensures { λ r. ⌜ r ≡ cond subtracts (decimalDifference (rowDifference row)) (decimalSum row) ⌝ }
+{
+    if subtracts {
+        Outcome {
+            result: DIFFERENCES[row as usize],
+            carry: 9 < row,
+        }
+    } else {
+        Outcome {
+            result: SUMS[row as usize],
+            carry: 9 < row,
+        }
+    }
+}
+
+pub fn add(bcd: bool, a: u8, b: u8, carry: bool) -> Outcome
+    ensures { λ r. ⌜ r ≡ addOf bcd a b carry ⌝ }
+{
+    let n = a % 16 + b % 16 + carry as u8;
+    if bcd {
+        return decimal(false, n);
+    }
+    Outcome {
+        result: n % 16,
+        carry: 15 < n,
+    }
+}
+
+pub fn subtract(bcd: bool, a: u8, b: u8, carry: bool) -> Outcome
+    ensures { λ r. ⌜ r ≡ subtractOf bcd a b carry ⌝ }
+{
+    let row = (32 + a % 16 - b % 16 - carry as u8) % 32;
+    if bcd {
+        return decimal(true, row);
+    }
+    Outcome {
+        result: row % 16,
+        carry: 15 < row,
+    }
+}
+
+// The seven operations that have a form r,m and a form m,#n4. Logic leaves CY.
+pub fn operate(op: AluOp, bcd: bool, a: u8, b: u8, carry: bool) -> Outcome
+    ensures { λ r. ⌜ r ≡ operateOf op bcd a b carry ⌝ }
+{
+    match op {
+        AluOp::Add => add(bcd, a, b, false),
+        AluOp::AddC => add(bcd, a, b, carry),
+        AluOp::Sub => subtract(bcd, a, b, false),
+        AluOp::SubC => subtract(bcd, a, b, carry),
+        AluOp::Or => Outcome {
+            result: a | b,
+            carry: carry,
+        },
+        AluOp::And => Outcome {
+            result: a & b,
+            carry: carry,
+        },
+        AluOp::Xor => Outcome {
+            result: a ^ b,
+            carry: carry,
+        },
+    }
+}
+
+// RORC: CY to bit 3, bit 0 to CY.
+pub fn rotate(x: u8, carry: bool) -> Outcome
+    ensures { λ r. ⌜ r ≡ rotateOf x carry ⌝ }
+{
+    Outcome {
+        result: carry as u8 * 8 + x % 16 / 2,
+        carry: x % 2 == 1,
+    }
+}
+
+// Z after an arithmetic result.
+pub fn zero(cmp: bool, z: bool, result: u8) -> bool
+    ensures { λ r. ⌜ r ≡ zeroOf cmp z result ⌝ }
+{
+    if result != 0 {
+        return false;
+    }
+    if cmp {
+        return z;
+    }
+    true
+}
+
+// Whether a skip's condition holds of the cell's nibble x.
+pub fn skips(op: SkipOp, x: u8, n4: u8) -> bool
+    ensures { λ r. ⌜ r ≡ skipsOf op x n4 ⌝ }
+{
+    match op {
+        SkipOp::Skt => x & n4 == n4,
+        SkipOp::Skf => x & n4 == 0,
+        SkipOp::Ske => x == n4,
+        SkipOp::Skne => x != n4,
+        SkipOp::Skge => n4 <= x,
+        SkipOp::Sklt => x < n4,
+    }
+}

@@ -1,0 +1,4 @@
+pub mod Ports
+pub mod Again
+pub mod Ranged
+pub mod Writes

@@ -1,0 +1,86 @@
+-- The laws of the cell write, over the address and the chip.
+-- Assumes nothing.
+use mathlib.Core.Path.{_≡_, _∙_, ap, refl, sym, subst}
+use mathlib.Core.Bool.{Bool, true, false, _||_}
+use mathlib.Core.List.{List, [], _∷_}
+use Prim.Native.Nat.{ℕ, _<_, _≤_}
+use native.Mathlib.Omega.{arith}
+use borrow.Author.Tests.{eqb-true, eqb-false, ltb-true, ltb-false, eq-eqb}
+use lib.Dec.{T, eqb, ltb}
+use lib.ListN.{getD, length, length-set}
+use lib.Seq.{getD-set-same, getD-set-other, set-out}
+use Rattle.laws.proofs.Every.{every-at, every-of, passed, holds}
+use Rattle.memory.specs.Chip.{Chip}
+use Rattle.memory.specs.Range.{cellInRange, cellsInRange}
+use Rattle.memory.specs.Write.{Write, keptOf, writeOf, writesApplied, touches}
+use Rattle.memory.specs.WriteLaws.{WriteLaws}
+use Rattle.memory.proofs.Again.{again}
+
+module _ (chip : Chip) where
+  pub same : (cells : List ℕ) (at v : ℕ) → at < length cells → getD (writeOf chip cells at v) at 0 ≡ keptOf chip at v
+  unfolding writeOf
+  same cells at v h = getD-set-same cells at (keptOf chip at v) 0 h
+
+  pub other : (cells : List ℕ) (at v k : ℕ) → (k ≡ at → ⊥) → getD (writeOf chip cells at v) k 0 ≡ getD cells k 0
+  unfolding writeOf
+  other cells at v k h = getD-set-other cells at k (keptOf chip at v) 0 h
+
+  past : (cells : List ℕ) (at v : ℕ) → length cells ≤ at → writeOf chip cells at v ≡ cells
+  unfolding writeOf
+  past cells at v h = set-out cells at (keptOf chip at v) h
+
+  kept-kept : (at v : ℕ) → keptOf chip at (keptOf chip at v) ≡ keptOf chip at v
+  unfolding keptOf
+  kept-kept at v = again v (getD (chip .masks) at 0)
+
+  -- a cell in range by what it holds
+  abbrev Fine : ℕ → ℕ → Type 0
+  Fine at v = T (eqb (keptOf chip at v) v)
+
+  fine-kept : (at v : ℕ) → Fine at (keptOf chip at v)
+  fine-kept at v = passed (eq-eqb _ _ (kept-kept at v))
+
+  fine-after : (cells : List ℕ) (at v k : ℕ) (here inside : Bool) → eqb k at ≡ here → ltb at (length cells) ≡ inside
+      → Fine k (getD cells k 0) → Fine k (getD (writeOf chip cells at v) k 0)
+  fine-after cells at v k false inside e l f = rw (other cells at v k (eqb-false k at e)) f
+  fine-after cells at v k true false e l f = rw (past cells at v (ltb-false at (length cells) l)) f
+  fine-after cells at v k true true e l f =
+      rw (eqb-true k at e, same cells at v (ltb-true at (length cells) l)) (fine-kept at v)
+
+  ranged-once : (cells : List ℕ) (at v : ℕ) → cellsInRange chip cells ≡ true → cellsInRange chip (writeOf chip cells at v) ≡ true
+  unfolding cellsInRange
+  ranged-once cells at v r =
+      holds (every-of (cellInRange chip (writeOf chip cells at v)) 128 (λ k h.
+      fine-after cells at v k (eqb k at) (ltb at (length cells)) refl refl
+      (every-at (cellInRange chip cells) 128 (passed r) k h)))
+
+  pub ranged : (ws : List Write) (cells : List ℕ) → cellsInRange chip cells ≡ true → cellsInRange chip (writesApplied chip cells ws) ≡ true
+  unfolding writesApplied
+  ranged [] cells r = r
+  ranged (w ∷ ws) cells r = ranged ws (writeOf chip cells (w .at) (w .value)) (ranged-once cells (w .at) (w .value) r)
+
+  or-neither : (a b : Bool) → (a || b) ≡ false → (a ≡ false) × (b ≡ false)
+  or-neither true b e = absurd (let z : _≡_ {A = ℕ} 0 1 = cc in omega arith)
+  or-neither false b e = (refl, e)
+
+  pub untouched : (ws : List Write) (cells : List ℕ) (k : ℕ) → touches ws k ≡ false
+      → getD (writesApplied chip cells ws) k 0 ≡ getD cells k 0
+  unfolding writesApplied
+  untouched [] cells k e = refl
+  untouched (w ∷ ws) cells k e =
+      let n = or-neither (eqb k (w .at)) (touches ws k) e in
+      untouched ws (writeOf chip cells (w .at) (w .value)) k (n .1) ∙ other cells (w .at) (w .value) k (eqb-false k (w .at) (n .0))
+
+  pub counted : (ws : List Write) (cells : List ℕ) → length (writesApplied chip cells ws) ≡ length cells
+  unfolding writesApplied writeOf
+  counted [] cells = refl
+  counted (w ∷ ws) cells = counted ws (writeOf chip cells (w .at) (w .value)) ∙ length-set cells (w .at) (keptOf chip (w .at) (w .value))
+
+  pub write-laws : (cells : List ℕ) → WriteLaws chip cells
+  write-laws cells = record {
+    same = same cells;
+    other = other cells;
+    untouched = λ ws k. untouched ws cells k;
+    ranged = λ ws. ranged ws cells;
+    counted = λ ws. counted ws cells;
+  }

@@ -1,0 +1,9 @@
+pub mod Names
+pub mod Chip
+pub mod Cells
+pub mod Write
+pub mod Read
+pub mod Address
+pub mod Registers
+pub mod Range
+pub mod WriteLaws

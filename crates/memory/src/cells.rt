@@ -1,0 +1,62 @@
+// The cell write and the cell read.
+ghost use mathlib.Core.Path.{_≡_};
+ghost use Rattle.memory.specs.Cells.{isSet, withFlag};
+ghost use Rattle.memory.specs.Chip.{upd17132};
+ghost use Rattle.memory.specs.Read.{readOf, mixOf};
+ghost use Rattle.memory.specs.Write.{writeOf, keptOf};
+use crate::Memory;
+use crate::masks::MASKS;
+
+// One cell written, its fixed bits 0; the rest equal. Past 7FH there is no cell.
+pub fn write(cells: [u8; 128], at: u8, v: u8) -> [u8; 128]
+    ensures { λ r. ⌜ r ≡ writeOf upd17132 cells at v ⌝ }
+{
+    if 128 <= at {
+        return cells;
+    }
+    let mut next = cells;
+    next[at as usize] = v & MASKS[at as usize];
+    next
+}
+
+// Bit by bit the pin where the direction is 0 and the stored bit where it is 1.
+fn mix(pin: u8, direction: u8, stored: u8) -> u8
+    ensures { λ r. ⌜ r ≡ mixOf pin direction stored ⌝ }
+{
+    (pin & (direction ^ 0b1111)) | (stored & direction)
+}
+
+// A cell as an instruction reads it. Pins and directions are those of P0A to P0E.
+pub fn read(cells: &[u8; 128], pins: [u8; 5], directions: [u8; 5], at: u8) -> u8
+    ensures { λ r. ⌜ r ≡ readOf upd17132 (now (cells .entry)) pins directions at ⌝ }
+{
+    if 128 <= at {
+        return 0;
+    }
+    let stored = cells[at as usize];
+    if at < Memory::P0E {
+        return stored;
+    }
+    if Memory::P0D < at {
+        return stored;
+    }
+    let k = ((at - Memory::P0E + 4) % 5) as usize;
+    mix(pins[k], directions[k], stored) & MASKS[at as usize]
+}
+
+// Whether a flag bit of a cell is 1.
+pub fn is_set(cells: &[u8; 128], at: u8, flag: u8) -> bool
+    ensures { λ r. ⌜ r ≡ isSet (now (cells .entry)) at flag ⌝ }
+{
+    if 128 <= at {
+        return false;
+    }
+    cells[at as usize] & flag != 0
+}
+
+// A nibble with a flag bit set or cleared.
+pub fn with_flag(x: u8, flag: u8, on: bool) -> u8
+    ensures { λ r. ⌜ r ≡ withFlag x flag on ⌝ }
+{
+    if on { x | flag } else { x & (flag ^ 0b1111) }
+}
