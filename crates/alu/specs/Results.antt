@@ -12,7 +12,7 @@ use Rattle.alu.specs.Decimal.{decimalSum, decimalDifference}
 use Rattle.alu.specs.Difference.{Difference, plus, minus, differenceOf}
 use Rattle.alu.specs.declared.Outcome.{Outcome}
 
--- An operand is a nibble: of a byte out of range its low four bits.
+-- An operand of a sum, a difference or a rotation is a nibble: of a byte out of range its low four bits.
 abbrev pub nibble : ℕ → ℕ
 nibble x = x % 16
 

@@ -1,0 +1,16 @@
+-- CY as a number: the code's is the definition's, and at most 1.
+-- Assumes nothing.
+use mathlib.Core.Path.{_≡_, refl}
+use mathlib.Core.Bool.{Bool, true, false}
+use Prim.Native.Nat.{_≤_}
+use mir.Val.{boolByte}
+use lib.Dec.{lit≤}
+use Rattle.alu.specs.Results.{bit}
+
+pub byte-bit : (b : Bool) → boolByte b ≡ bit b
+byte-bit true = refl
+byte-bit false = refl
+
+pub byte-below : (b : Bool) → boolByte b ≤ 1
+byte-below true = lit≤ tt
+byte-below false = lit≤ tt

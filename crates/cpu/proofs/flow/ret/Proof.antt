@@ -1,0 +1,55 @@
+use borrow.Author.Needs.{needs}
+use Rattle.cpu.proofs.flow.ret.Statement.{statement}
+use Rattle.cpu.proofs.flow.ret.Tie as tie
+use Rattle.cpu.proofs.flow.ret.Reads as reads
+use Rattle.cpu.proofs.flow.ret.Lts as lts
+
+-- src/flow.rt:86:9
+returns : tie.Need-returns
+returns c = ?
+
+-- src/flow.rt:88:16
+sub-top : tie.Need-sub-top
+sub-top c = search needs
+
+-- src/flow.rt:88:15
+cast-top : tie.Need-cast-top
+cast-top c = search needs
+
+-- src/flow.rt:89:14
+mul-to : tie.Need-mul-to
+mul-to c = search needs
+
+-- src/flow.rt:89:14
+element-copy-out-to : tie.Need-element-copy-out-to
+element-copy-out-to c = search needs
+
+-- src/flow.rt:90:5
+mul-stack : tie.Need-mul-stack
+mul-stack c = search needs
+
+-- src/flow.rt:90:5
+element-write-stack : tie.Need-element-write-stack
+element-write-stack c = search needs
+
+-- src/flow.rt:93:17
+sub-t9 : tie.Need-sub-t9
+sub-t9 c = search needs
+
+-- src/flow.rt:80:1
+returns-2 : tie.Need-returns-2
+returns-2 c = ?
+
+pub ret-spec : {M : Type 1} → statement M
+ret-spec =
+    tie.close
+    (tie.spec
+    returns
+    sub-top
+    cast-top
+    mul-to
+    element-copy-out-to
+    mul-stack
+    element-write-stack
+    sub-t9
+    returns-2)

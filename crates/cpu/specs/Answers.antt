@@ -1,0 +1,70 @@
+-- What a step and a run answer, in the numbers of document 01, "Refusal numbers".
+-- Assumes nothing.
+use mathlib.Core.Path.{_≡_}
+use mathlib.Core.Bool.{Bool, true, false}
+use Prim.Native.Nat.{ℕ}
+use Rattle.cpu.specs.declared.Refusal.{Refusal}
+use Rattle.cpu.specs.declared.Refusal.the-variants.{OutOfRange, PastRom, NoInstruction, NotInBase, BadTarget, StackFull, StackEmpty, PastTable}
+use Rattle.cpu.specs.declared.Answer.{Answer}
+use Rattle.cpu.specs.declared.Answer.the-variants.{Done, Standby, Refused}
+use Rattle.cpu.specs.declared.End.{End}
+use Rattle.cpu.specs.declared.End.the-variants as end
+use Rattle.cpu.specs.declared.Machine.{Machine}
+use Rattle.cpu.specs.declared.Stepped.{Stepped}
+use Rattle.cpu.specs.declared.Ran.{Ran}
+
+-- the table of refusals, 1 to 8
+abbrev pub numberOf : Refusal → ℕ
+numberOf OutOfRange = 1
+numberOf PastRom = 2
+numberOf NoInstruction = 3
+numberOf NotInBase = 4
+numberOf BadTarget = 5
+numberOf StackFull = 6
+numberOf StackEmpty = 7
+numberOf PastTable = 8
+
+-- a step is completed, answers "standing", or is refused with a number
+pub data Outcome : Type 0 where
+  done : Outcome
+  standing : Outcome
+  refused : ℕ → Outcome
+
+abbrev pub outcomeOf : Answer → Outcome
+outcomeOf Done = done
+outcomeOf Standby = standing
+outcomeOf (Refused r) = refused (numberOf r)
+
+-- "each completed step counts one"; one that answers "standing" or is refused is not completed
+abbrev pub stepsOf : Outcome → ℕ
+stepsOf done = 1
+stepsOf standing = 0
+stepsOf (refused n) = 0
+
+-- "each completed step counts one cycle"
+abbrev pub cyclesOf : Outcome → ℕ
+cyclesOf done = 1
+cyclesOf standing = 0
+cyclesOf (refused n) = 0
+
+-- a step's answer and the record after it
+pub record Step : Type 0 where
+  pub outcome : Outcome
+  pub machine : Machine
+
+abbrev pub stepOfStepped : Stepped → Step
+stepOfStepped s = record { outcome = outcomeOf (s .answer); machine = s .machine }
+
+-- the refusal that a run ended with, 0 for none
+abbrev pub endOf : End → ℕ
+endOf end.Completed = 0
+endOf (end.Refused r) = numberOf r
+
+-- the steps that a run completed, its refusal or 0, and the record after it
+pub record Run : Type 0 where
+  pub steps : ℕ
+  pub refusal : ℕ
+  pub machine : Machine
+
+abbrev pub runOfRan : Ran → Run
+runOfRan r = record { steps = r .report .steps; refusal = endOf (r .report .end); machine = r .machine }

@@ -1,0 +1,25 @@
+-- What the functions inside the step answer, in the definitions' terms.
+-- Assumes nothing.
+use mathlib.Core.List.{List}
+use Prim.Native.Nat.{ℕ}
+use Rattle.cpu.specs.Answers.{Step, outcomeOf, numberOf}
+use Rattle.cpu.specs.Control.{Shift, goes, stops}
+use Rattle.cpu.specs.Parts.{withStack, wholeOf}
+use Rattle.cpu.specs.Step.{completed, stopped}
+use Rattle.cpu.specs.declared.Advanced.{Advanced}
+use Rattle.cpu.specs.declared.Moved.{Moved}
+use Rattle.cpu.specs.declared.Moved.the-variants.{To, Refused}
+use Rattle.cpu.specs.declared.Regs.{Regs}
+
+-- the stack after, the registers before, and the answer
+abbrev pub shiftOf : List ℕ → Regs → Moved → Shift
+shiftOf stack before (To r) = goes (withStack stack r)
+shiftOf stack before (Refused q) = stops (numberOf q) (withStack stack before)
+
+-- the cells and the stack after, the registers before, and the answer
+abbrev pub executedOf : List ℕ → List ℕ → Regs → Moved → Step
+executedOf cells stack before (To r) = completed (wholeOf cells stack r)
+executedOf cells stack before (Refused q) = stopped (numberOf q) (wholeOf cells stack before)
+
+abbrev pub advancedOf : List ℕ → List ℕ → Advanced → Step
+advancedOf cells stack a = record { outcome = outcomeOf (a .answer); machine = wholeOf cells stack (a .regs) }

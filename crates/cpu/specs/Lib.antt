@@ -1,0 +1,9 @@
+pub mod Answers
+pub mod Parts
+pub mod Ranges
+pub mod Flow
+pub mod Control
+pub mod Data
+pub mod Step
+pub mod Run
+pub mod Inside

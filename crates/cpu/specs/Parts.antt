@@ -1,0 +1,32 @@
+-- The machine's record and its parts: document 01, "The machine's record".
+-- Assumes nothing.
+use mathlib.Core.Bool.{Bool, false}
+use mathlib.Core.List.{List}
+use Prim.Native.Nat.{ℕ}
+use lib.ListN.{replicate}
+use Rattle.memory.specs.Range.{resetMemory}
+use Rattle.cpu.specs.declared.Control.{Control}
+use Rattle.cpu.specs.declared.Machine.{Machine}
+use Rattle.cpu.specs.declared.Regs.{Regs}
+
+-- what stands in the cells
+abbrev pub cellsOf : Machine → List ℕ
+cellsOf m = m .memory .cells
+
+-- the record with other cells and another control
+abbrev pub machineOf : List ℕ → Control → Machine
+machineOf cells c = record { memory = record { cells = cells }; control = c }
+
+-- the control whose stack stands apart from it, as the code keeps it while it steps
+abbrev pub withStack : List ℕ → Regs → Control
+withStack stack r = record { pc = r .pc; stack = stack; levels = r .levels; skip = r .skip; standby = r .standby }
+
+abbrev pub wholeOf : List ℕ → List ℕ → Regs → Machine
+wholeOf cells stack r = machineOf cells (withStack stack r)
+
+-- "Reset gives all zeros and no mark"
+abbrev pub resetControl : Control
+resetControl = record { pc = 0; stack = replicate 5 0; levels = 0; skip = false; standby = false }
+
+abbrev pub resetMachine : Machine
+resetMachine = record { memory = resetMemory; control = resetControl }

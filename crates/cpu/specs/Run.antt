@@ -1,0 +1,34 @@
+-- A counted run: document 01, "A run takes one input record and a budget of 0 to 65,535 steps".
+-- Assumes nothing.
+use mathlib.Core.Bool.{Bool, true, false, _&&_, cond}
+use mathlib.Core.List.{List}
+use Prim.Native.Nat.{ℕ, zero, suc, _+_}
+use Rattle.memory.specs.Chip.{Chip}
+use Rattle.cpu.specs.Answers.{Outcome, done, standing, refused, stepsOf, Step, Run}
+use Rattle.cpu.specs.Ranges.{allInRange, budgetInRange}
+use Rattle.cpu.specs.Step.{stepOf}
+use Rattle.cpu.specs.declared.Input.{Input}
+use Rattle.cpu.specs.declared.Machine.{Machine}
+
+abbrev pub ended : ℕ → ℕ → Machine → Run
+ended steps refusal m = record { steps = steps; refusal = refusal; machine = m }
+
+-- a run ends at a refusal, and after a step that leaves the machine standing; else it goes on
+abbrev pub afterStep : ℕ → Machine → Outcome → Run → Run
+afterStep steps m done rest = cond (m .control .standby) (ended steps 0 m) rest
+afterStep steps m standing rest = ended steps 0 m
+afterStep steps m (refused n) rest = ended steps n m
+
+module _ (chip : Chip) (rom : List ℕ) (input : Input) where
+  -- so many steps at most, each on the machine that the step before returned; steps counts those completed so far
+  unfoldable pub runFrom : ℕ → ℕ → Machine → Run
+  runFrom zero steps m = ended steps 0 m
+  runFrom (suc left) steps m =
+      let s = stepOf chip rom input m in
+      let count = steps + stepsOf (s .outcome) in
+      let rest = runFrom left count (s .machine) in
+      afterStep count (s .machine) (s .outcome) rest
+
+  -- refusal 1 is tried before anything, also at budget 0
+  unfoldable pub runOf : ℕ → Machine → Run
+  runOf budget m = cond (allInRange chip rom m input && budgetInRange budget) (runFrom budget 0 m) (ended 0 1 m)

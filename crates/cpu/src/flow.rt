@@ -1,0 +1,147 @@
+// What an instruction does to the PC, the stack and the marks.
+ghost use mathlib.Core.Path.{_≡_};
+ghost use mathlib.Core.List.{List};
+ghost use Prim.Native.Nat.{ℕ, _≤_};
+ghost use Rattle.memory.specs.Chip.{upd17132};
+ghost use Rattle.cpu.specs.Control.{goes, branchOf, callOf, returnOf, pushOf, popOf, tableOf, standOf, onwardOf, inReach};
+ghost use Rattle.cpu.specs.Inside.{shiftOf};
+ghost use Rattle.cpu.specs.Parts.{withStack};
+use crate::Moved;
+use crate::Refusal;
+use crate::Regs;
+
+// To the next word, with the skip mark set or not.
+pub fn onward(regs: Regs, skip: bool) -> Regs
+    ensures { λ r. ⌜ ((stack : List ℕ) → goes (withStack stack r) ≡ onwardOf upd17132 skip (withStack stack regs)) ⌝ }
+{
+    Regs {
+        pc: memory::next(regs.pc),
+        levels: regs.levels,
+        skip: skip,
+        standby: regs.standby,
+    }
+}
+
+// HALT and STOP.
+pub fn stand(regs: Regs) -> Regs
+    ensures { λ r. ⌜ ((stack : List ℕ) → goes (withStack stack r) ≡ standOf upd17132 (withStack stack regs)) ⌝ }
+{
+    Regs {
+        pc: memory::next(regs.pc),
+        levels: regs.levels,
+        skip: regs.skip,
+        standby: true,
+    }
+}
+
+// BR.
+pub fn branch(regs: Regs, to: u16) -> Moved
+    ensures { λ r. ⌜ ((stack : List ℕ) → shiftOf stack regs r ≡ branchOf upd17132 to (withStack stack regs)) ⌝ }
+{
+    if 1024 <= to {
+        return Moved::Refused(Refusal::BadTarget);
+    }
+    Moved::To(Regs {
+        pc: to,
+        levels: regs.levels,
+        skip: regs.skip,
+        standby: regs.standby,
+    })
+}
+
+// CALL @AR, and CALL once its target is known to be in reach.
+pub fn call(stack: &mut [u16; 5], regs: Regs, to: u16) -> Moved
+    ensures { λ r. ⌜ shiftOf (now (stack .exit)) regs r ≡ callOf upd17132 to (withStack (now (stack .entry)) regs) ⌝ }
+{
+    let levels = regs.levels;
+    if 5 <= levels {
+        return Moved::Refused(Refusal::StackFull);
+    }
+    stack[levels as usize] = memory::next(regs.pc);
+    Moved::To(Regs {
+        pc: to,
+        levels: levels + 1,
+        skip: regs.skip,
+        standby: regs.standby,
+    })
+}
+
+// CALL: the target is tried before the stack.
+pub fn call_in_reach(stack: &mut [u16; 5], regs: Regs, to: u16) -> Moved
+    ensures { λ r. ⌜ shiftOf (now (stack .exit)) regs r ≡ inReach upd17132 to (withStack (now (stack .entry)) regs) (callOf upd17132 to (withStack (now (stack .entry)) regs)) ⌝ }
+{
+    if 1024 <= to {
+        return Moved::Refused(Refusal::BadTarget);
+    }
+    call(stack, regs, to)
+}
+
+// RET, and RETSK, which sets the skip mark.
+pub fn ret(stack: &mut [u16; 5], regs: Regs, skip: bool) -> Moved
+    requires { ⌜ regs .levels ≤ 5 ⌝ }
+    ensures { λ r. ⌜ shiftOf (now (stack .exit)) regs r ≡ returnOf upd17132 skip (withStack (now (stack .entry)) regs) ⌝ }
+{
+    let levels = regs.levels;
+    if levels == 0 {
+        return Moved::Refused(Refusal::StackEmpty);
+    }
+    let top = (levels - 1) as usize;
+    let to = stack[top];
+    stack[top] = 0;
+    Moved::To(Regs {
+        pc: to,
+        levels: levels - 1,
+        skip: skip,
+        standby: regs.standby,
+    })
+}
+
+// PUSH AR.
+pub fn push(stack: &mut [u16; 5], regs: Regs, ar: u16) -> Moved
+    ensures { λ r. ⌜ shiftOf (now (stack .exit)) regs r ≡ pushOf upd17132 ar (withStack (now (stack .entry)) regs) ⌝ }
+{
+    let levels = regs.levels;
+    if 5 <= levels {
+        return Moved::Refused(Refusal::StackFull);
+    }
+    stack[levels as usize] = ar;
+    Moved::To(Regs {
+        pc: memory::next(regs.pc),
+        levels: levels + 1,
+        skip: regs.skip,
+        standby: regs.standby,
+    })
+}
+
+// POP AR, whose value the caller has read.
+pub fn pop(stack: &mut [u16; 5], regs: Regs) -> Moved
+    requires { ⌜ regs .levels ≤ 5 ⌝ }
+    ensures { λ r. ⌜ shiftOf (now (stack .exit)) regs r ≡ popOf upd17132 (withStack (now (stack .entry)) regs) ⌝ }
+{
+    let levels = regs.levels;
+    if levels == 0 {
+        return Moved::Refused(Refusal::StackEmpty);
+    }
+    stack[(levels - 1) as usize] = 0;
+    Moved::To(Regs {
+        pc: memory::next(regs.pc),
+        levels: levels - 1,
+        skip: regs.skip,
+        standby: regs.standby,
+    })
+}
+
+// MOVT: one free level is needed, and given back at once.
+pub fn table(regs: Regs) -> Moved
+    ensures { λ r. ⌜ ((stack : List ℕ) → shiftOf stack regs r ≡ tableOf upd17132 (withStack stack regs)) ⌝ }
+{
+    if 5 <= regs.levels {
+        return Moved::Refused(Refusal::StackFull);
+    }
+    Moved::To(Regs {
+        pc: memory::next(regs.pc),
+        levels: regs.levels,
+        skip: regs.skip,
+        standby: regs.standby,
+    })
+}
