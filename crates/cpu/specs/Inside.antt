@@ -2,8 +2,12 @@
 -- Assumes nothing.
 use mathlib.Core.List.{List}
 use Prim.Native.Nat.{ℕ}
+use Rattle.isa.specs.declared.Instruction.{Instruction}
+use Rattle.memory.specs.Chip.{Chip}
+use Rattle.memory.specs.Write.{writesApplied}
 use Rattle.cpu.specs.Answers.{Step, outcomeOf, numberOf}
 use Rattle.cpu.specs.Control.{Shift, goes, stops}
+use Rattle.cpu.specs.Data.{Data, writesOf}
 use Rattle.cpu.specs.Parts.{withStack, wholeOf}
 use Rattle.cpu.specs.Step.{completed, stopped}
 use Rattle.cpu.specs.declared.Advanced.{Advanced}
@@ -23,3 +27,10 @@ executedOf cells stack before (Refused q) = stopped (numberOf q) (wholeOf cells 
 
 abbrev pub advancedOf : List ℕ → List ℕ → Advanced → Step
 advancedOf cells stack a = record { outcome = outcomeOf (a .answer); machine = wholeOf cells stack (a .regs) }
+
+abbrev pub dataAt : List ℕ → List ℕ → List ℕ → Data
+dataAt cells pins directions = record { cells = cells; pins = pins; directions = directions }
+
+-- the cells after the writes of an instruction that takes nothing from the stack or the ROM
+abbrev pub writtenBy : Chip → Data → Instruction → List ℕ
+writtenBy chip d i = writesApplied chip (d .cells) (writesOf chip d i 0 0)

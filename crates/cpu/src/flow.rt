@@ -3,7 +3,7 @@ ghost use mathlib.Core.Path.{_≡_};
 ghost use mathlib.Core.List.{List};
 ghost use Prim.Native.Nat.{ℕ, _≤_};
 ghost use Rattle.memory.specs.Chip.{upd17132};
-ghost use Rattle.cpu.specs.Control.{goes, branchOf, callOf, returnOf, pushOf, popOf, tableOf, standOf, onwardOf, inReach};
+ghost use Rattle.cpu.specs.Control.{goes, jump, branchOf, callOf, returnOf, pushOf, popOf, tableOf, standOf, onwardOf, inReach};
 ghost use Rattle.cpu.specs.Inside.{shiftOf};
 ghost use Rattle.cpu.specs.Parts.{withStack};
 use crate::Moved;
@@ -31,6 +31,18 @@ pub fn stand(regs: Regs) -> Regs
         levels: regs.levels,
         skip: regs.skip,
         standby: true,
+    }
+}
+
+// BR @AR.
+pub fn jump(regs: Regs, to: u16) -> Regs
+    ensures { λ r. ⌜ ((stack : List ℕ) → withStack stack r ≡ jump to (withStack stack regs)) ⌝ }
+{
+    Regs {
+        pc: to,
+        levels: regs.levels,
+        skip: regs.skip,
+        standby: regs.standby,
     }
 }
 

@@ -1,4 +1,6 @@
 // The machine, its step and its counted run.
+mod data;
+mod execute;
 mod flow;
 
 ghost use mathlib.Core.Path.{_≡_};

@@ -11,7 +11,7 @@ reset-requires c κs = search needs
 
 -- src/lib.rt:95:5
 returns : tie.Need-returns
-returns c = ?
+returns c = rw (c .reset .ensures)
 
 pub reset-spec : {M : Type 1} → statement M
 reset-spec = tie.close (tie.spec reset-requires returns)

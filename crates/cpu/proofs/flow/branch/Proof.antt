@@ -1,3 +1,5 @@
+use borrow.Author.Tests.{le-leb, lt-leb}
+use Rattle.cpu.specs.Control.{branchOf}
 use Rattle.cpu.proofs.flow.branch.Statement.{statement}
 use Rattle.cpu.proofs.flow.branch.Tie as tie
 use Rattle.cpu.proofs.flow.branch.Reads as reads
@@ -5,11 +7,13 @@ use Rattle.cpu.proofs.flow.branch.Lts as lts
 
 -- src/flow.rt:42:9
 returns : tie.Need-returns
-returns c = ?
+unfolding branchOf
+returns c = λ stack. simp (le-leb _ _ (c .if1 .taken))
 
 -- src/flow.rt:38:1
 returns-2 : tie.Need-returns-2
-returns-2 c = ?
+unfolding branchOf
+returns-2 c = λ stack. simp (lt-leb _ _ (c .if1 .left))
 
 pub branch-spec : {M : Type 1} → statement M
 branch-spec = tie.close (tie.spec returns returns-2)

@@ -1,3 +1,4 @@
+use Rattle.cpu.specs.Control.{onwardOf}
 use borrow.Author.Needs.{needs}
 use Rattle.cpu.proofs.flow.onward.Statement.{statement}
 use Rattle.cpu.proofs.flow.onward.Tie as tie
@@ -11,7 +12,8 @@ next-requires c κs = search needs
 
 -- src/flow.rt:14:1
 returns : tie.Need-returns
-returns c = ?
+unfolding onwardOf
+returns c = λ stack. rw (c .next .ensures)
 
 pub onward-spec : {M : Type 1} → statement M
 onward-spec = tie.close (tie.spec next-requires returns)

@@ -1,3 +1,5 @@
+use borrow.Author.Tests.{eq-eqb, ne-eqb}
+use Rattle.cpu.specs.Control.{popOf}
 use borrow.Author.Needs.{needs}
 use Rattle.cpu.proofs.flow.pop.Statement.{statement}
 use Rattle.cpu.proofs.flow.pop.Tie as tie
@@ -7,7 +9,8 @@ use Rattle.memory.proofs.next.Reads as next-reads
 
 -- src/flow.rt:123:9
 returns : tie.Need-returns
-returns c = ?
+unfolding popOf
+returns c = simp (eq-eqb _ _ (c .if1 .taken))
 
 -- src/flow.rt:125:12
 sub-stack : tie.Need-sub-stack
@@ -35,7 +38,8 @@ sub-t6 c = search needs
 
 -- src/flow.rt:117:1
 returns-2 : tie.Need-returns-2
-returns-2 c = ?
+unfolding popOf
+returns-2 c = simp (ne-eqb _ _ (c .before .if1 .left), c .next .ensures)
 
 pub pop-spec : {M : Type 1} → statement M
 pop-spec =

@@ -1,3 +1,5 @@
+use borrow.Author.Tests.{le-leb, lt-leb}
+use Rattle.cpu.specs.Control.{pushOf}
 use borrow.Author.Needs.{needs}
 use Rattle.cpu.proofs.flow.push.Statement.{statement}
 use Rattle.cpu.proofs.flow.push.Tie as tie
@@ -7,7 +9,8 @@ use Rattle.memory.proofs.next.Reads as next-reads
 
 -- src/flow.rt:105:9
 returns : tie.Need-returns
-returns c = ?
+unfolding pushOf
+returns c = simp (le-leb _ _ (c .if1 .taken))
 
 -- src/flow.rt:107:11
 cast-stack : tie.Need-cast-stack
@@ -31,7 +34,8 @@ add-t12 c = search needs
 
 -- src/flow.rt:100:1
 returns-2 : tie.Need-returns-2
-returns-2 c = ?
+unfolding pushOf
+returns-2 c = simp (lt-leb _ _ (c .before .if1 .left), c .next .ensures)
 
 pub push-spec : {M : Type 1} → statement M
 push-spec =

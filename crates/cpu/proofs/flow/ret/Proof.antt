@@ -1,3 +1,5 @@
+use borrow.Author.Tests.{eq-eqb, ne-eqb}
+use Rattle.cpu.specs.Control.{returnOf}
 use borrow.Author.Needs.{needs}
 use Rattle.cpu.proofs.flow.ret.Statement.{statement}
 use Rattle.cpu.proofs.flow.ret.Tie as tie
@@ -6,7 +8,8 @@ use Rattle.cpu.proofs.flow.ret.Lts as lts
 
 -- src/flow.rt:86:9
 returns : tie.Need-returns
-returns c = ?
+unfolding returnOf
+returns c = simp (eq-eqb _ _ (c .if1 .taken))
 
 -- src/flow.rt:88:16
 sub-top : tie.Need-sub-top
@@ -38,7 +41,8 @@ sub-t9 c = search needs
 
 -- src/flow.rt:80:1
 returns-2 : tie.Need-returns-2
-returns-2 c = ?
+unfolding returnOf
+returns-2 c = simp (ne-eqb _ _ (c .before .if1 .left))
 
 pub ret-spec : {M : Type 1} → statement M
 ret-spec =

@@ -1,3 +1,4 @@
+use Rattle.cpu.specs.Control.{standOf}
 use borrow.Author.Needs.{needs}
 use Rattle.cpu.proofs.flow.stand.Statement.{statement}
 use Rattle.cpu.proofs.flow.stand.Tie as tie
@@ -11,7 +12,8 @@ next-requires c κs = search needs
 
 -- src/flow.rt:26:1
 returns : tie.Need-returns
-returns c = ?
+unfolding standOf
+returns c = λ stack. rw (c .next .ensures)
 
 pub stand-spec : {M : Type 1} → statement M
 stand-spec = tie.close (tie.spec next-requires returns)

@@ -1,3 +1,5 @@
+use borrow.Author.Tests.{le-leb, lt-leb}
+use Rattle.cpu.specs.Control.{tableOf}
 use borrow.Author.Needs.{needs}
 use Rattle.cpu.proofs.flow.table.Statement.{statement}
 use Rattle.cpu.proofs.flow.table.Tie as tie
@@ -7,7 +9,8 @@ use Rattle.memory.proofs.next.Reads as next-reads
 
 -- src/flow.rt:139:9
 returns : tie.Need-returns
-returns c = ?
+unfolding tableOf
+returns c = λ stack. simp (le-leb _ _ (c .if1 .taken))
 
 -- src/flow.rt:142:13
 next-requires : tie.Need-next-requires
@@ -15,7 +18,8 @@ next-requires c κs = search needs
 
 -- src/flow.rt:135:1
 returns-2 : tie.Need-returns-2
-returns-2 c = ?
+unfolding tableOf
+returns-2 c = λ stack. simp (lt-leb _ _ (c .before .if1 .left), c .next .ensures)
 
 pub table-spec : {M : Type 1} → statement M
 table-spec = tie.close (tie.spec returns next-requires returns-2)

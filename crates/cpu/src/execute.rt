@@ -1,0 +1,137 @@
+// One instruction, on the cells and the stack where they stand.
+ghost use mathlib.Core.Path.{_≡_};
+ghost use mathlib.Core.List.{List};
+ghost use Prim.Native.Nat.{ℕ, _≤_};
+ghost use Rattle.memory.specs.Chip.{upd17132};
+ghost use Rattle.cpu.specs.Inside.{executedOf};
+ghost use Rattle.cpu.specs.Parts.{wholeOf};
+ghost use Rattle.cpu.specs.Step.{executeOf};
+use crate::Input;
+use crate::Moved;
+use crate::Refusal;
+use crate::Regs;
+use crate::data;
+use crate::flow;
+use isa::FixedOp;
+use isa::Instruction;
+
+// MOVT: refusal 6 comes before 8.
+fn movt(rom: &[u16], cells: &mut [u8; 128], regs: Regs) -> Moved
+    ensures { λ r. ⌜ ((input : Input) (stack : List ℕ) → executedOf (now (cells .exit)) stack regs r ≡ executeOf upd17132 (now (rom .entry)) input (Instruction.Fixed FixedOp.Movt) (wholeOf (now (cells .entry)) stack regs)) ⌝ }
+{
+    let moved = flow::table(regs);
+    let Moved::To(next) = moved else {
+        return moved;
+    };
+    let ar = memory::ar(&*cells) as usize;
+    if rom.len() <= ar {
+        return Moved::Refused(Refusal::PastTable);
+    }
+    *cells = memory::write_buffer(*cells, rom[ar]);
+    Moved::To(next)
+}
+
+// POP AR: the address on the highest open level goes to AR.
+fn pop_ar(cells: &mut [u8; 128], stack: &mut [u16; 5], regs: Regs) -> Moved
+    requires { ⌜ regs .levels ≤ 5 ⌝ }
+    ensures { λ r. ⌜ ((rom : List ℕ) (input : Input) → executedOf (now (cells .exit)) (now (stack .exit)) regs r ≡ executeOf upd17132 rom input (Instruction.Fixed FixedOp.PopAr) (wholeOf (now (cells .entry)) (now (stack .entry)) regs)) ⌝ }
+{
+    let levels = regs.levels;
+    if levels == 0 {
+        return Moved::Refused(Refusal::StackEmpty);
+    }
+    let top = stack[(levels - 1) as usize];
+    *cells = memory::write_ar(*cells, top);
+    flow::pop(stack, regs)
+}
+
+// An instruction without operand.
+fn fixed(rom: &[u16], op: FixedOp, cells: &mut [u8; 128], stack: &mut [u16; 5], regs: Regs) -> Moved
+    requires { ⌜ regs .levels ≤ 5 ⌝ }
+    ensures { λ r. ⌜ ((input : Input) → executedOf (now (cells .exit)) (now (stack .exit)) regs r ≡ executeOf upd17132 (now (rom .entry)) input (Instruction.Fixed op) (wholeOf (now (cells .entry)) (now (stack .entry)) regs)) ⌝ }
+{
+    match op {
+        FixedOp::IncAr => {
+            *cells = memory::increment_ar(*cells);
+            Moved::To(flow::onward(regs, false))
+        }
+        FixedOp::IncIx => {
+            *cells = memory::increment_ix(*cells);
+            Moved::To(flow::onward(regs, false))
+        }
+        FixedOp::Movt => movt(rom, cells, regs),
+        FixedOp::PushAr => flow::push(stack, regs, memory::ar(&*cells)),
+        FixedOp::PopAr => pop_ar(cells, stack, regs),
+        FixedOp::BrAr => Moved::To(flow::jump(regs, memory::ar(&*cells))),
+        FixedOp::CallAr => flow::call(stack, regs, memory::ar(&*cells)),
+        FixedOp::Ret => flow::ret(stack, regs, false),
+        FixedOp::Retsk => flow::ret(stack, regs, true),
+        FixedOp::Reti => Moved::Refused(Refusal::NotInBase),
+        FixedOp::Ei => Moved::Refused(Refusal::NotInBase),
+        FixedOp::Di => Moved::Refused(Refusal::NotInBase),
+        FixedOp::Nop => Moved::To(flow::onward(regs, false)),
+    }
+}
+
+// An instruction.
+pub fn execute(
+    rom: &[u16],
+    instruction: Instruction,
+    cells: &mut [u8; 128],
+    stack: &mut [u16; 5],
+    regs: Regs,
+    input: Input,
+) -> Moved
+    requires { ⌜ regs .levels ≤ 5 ⌝ }
+    ensures { λ r. ⌜ executedOf (now (cells .exit)) (now (stack .exit)) regs r ≡ executeOf upd17132 (now (rom .entry)) input instruction (wholeOf (now (cells .entry)) (now (stack .entry)) regs) ⌝ }
+{
+    let pins = input.pins;
+    let directions = input.directions;
+    match instruction {
+        Instruction::AluRegister { op, r, m } => {
+            data::alu_register(cells, pins, directions, op, r, m);
+            Moved::To(flow::onward(regs, false))
+        }
+        Instruction::AluImmediate { op, m, n4 } => {
+            data::alu_immediate(cells, pins, directions, op, m, n4);
+            Moved::To(flow::onward(regs, false))
+        }
+        Instruction::Skip { op, m, n4 } => {
+            let skips = data::skip(cells, pins, directions, op, m, n4);
+            Moved::To(flow::onward(regs, skips))
+        }
+        Instruction::Rorc(r) => {
+            data::rorc(cells, pins, directions, r);
+            Moved::To(flow::onward(regs, false))
+        }
+        Instruction::Ld { r, m } => {
+            data::ld(cells, pins, directions, r, m);
+            Moved::To(flow::onward(regs, false))
+        }
+        Instruction::St { m, r } => {
+            data::st(cells, pins, directions, m, r);
+            Moved::To(flow::onward(regs, false))
+        }
+        Instruction::MovToIndirect { r, m } => {
+            data::mov_to(cells, pins, directions, r, m);
+            Moved::To(flow::onward(regs, false))
+        }
+        Instruction::MovFromIndirect { m, r } => {
+            data::mov_from(cells, pins, directions, m, r);
+            Moved::To(flow::onward(regs, false))
+        }
+        Instruction::MovImmediate { m, n4 } => {
+            data::mov_immediate(cells, m, n4);
+            Moved::To(flow::onward(regs, false))
+        }
+        Instruction::Peek(_) => Moved::Refused(Refusal::NotInBase),
+        Instruction::Poke(_) => Moved::Refused(Refusal::NotInBase),
+        Instruction::Get(_) => Moved::Refused(Refusal::NotInBase),
+        Instruction::Put(_) => Moved::Refused(Refusal::NotInBase),
+        Instruction::Br(addr) => flow::branch(regs, addr),
+        Instruction::Call(addr) => flow::call_in_reach(stack, regs, addr),
+        Instruction::Stop(_) => Moved::To(flow::stand(regs)),
+        Instruction::Halt(_) => Moved::To(flow::stand(regs)),
+        Instruction::Fixed(op) => fixed(rom, op, cells, stack, regs),
+    }
+}
