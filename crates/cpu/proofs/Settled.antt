@@ -59,7 +59,7 @@ module _ (chip : Chip) (rom : List ℕ) (input : Input) (cells stack : List ℕ)
   unfolding executeOf
   refuses q left e =
       let k : Keeps (withStack stack regs) (stops (numberOf q) (withStack left regs))
-            = subst (Keeps (withStack stack regs)) (sym e) (keeps chip (withStack stack regs) i (skipsOf chip (dataOf before input) i) (arOf cells)) in
+      = subst (Keeps (withStack stack regs)) (sym e) (keeps chip (withStack stack regs) i (skipsOf chip (dataOf before input) i) (arOf cells)) in
       rw (← e, number-not-0 q) (ap (λ (c : Control). stopped (numberOf q) (machineOf cells c)) (k (number-not-0 q)))
 
   -- an instruction that writes no cell

@@ -1,7 +1,10 @@
 -- What the functions inside the step answer, in the definitions' terms.
 -- Assumes nothing.
+use mathlib.Core.Bool.{cond}
 use mathlib.Core.List.{List}
 use Prim.Native.Nat.{ℕ}
+use lib.Dec.{leb}
+use lib.ListN.{getD, length}
 use Rattle.isa.specs.declared.Instruction.{Instruction}
 use Rattle.memory.specs.Chip.{Chip}
 use Rattle.memory.specs.Write.{writesApplied}
@@ -11,6 +14,8 @@ use Rattle.cpu.specs.Data.{Data, writesOf}
 use Rattle.cpu.specs.Parts.{withStack, wholeOf}
 use Rattle.cpu.specs.Step.{completed, stopped}
 use Rattle.cpu.specs.declared.Advanced.{Advanced}
+use Rattle.cpu.specs.declared.Fetched.{Fetched}
+use Rattle.cpu.specs.declared.Fetched.the-variants.{Word, Past}
 use Rattle.cpu.specs.declared.Moved.{Moved}
 use Rattle.cpu.specs.declared.Moved.the-variants.{To, Refused}
 use Rattle.cpu.specs.declared.Regs.{Regs}
@@ -34,3 +39,6 @@ dataAt cells pins directions = record { cells = cells; pins = pins; directions =
 -- the cells after the writes of an instruction that takes nothing from the stack or the ROM
 abbrev pub writtenBy : Chip → Data → Instruction → List ℕ
 writtenBy chip d i = writesApplied chip (d .cells) (writesOf chip d i 0 0)
+
+abbrev pub fetchedOf : List ℕ → ℕ → Fetched
+fetchedOf rom pc = cond (leb (length rom) pc) Past (Word (getD rom pc 0))

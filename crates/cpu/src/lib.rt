@@ -2,7 +2,10 @@
 mod data;
 mod execute;
 mod flow;
+mod ranges;
+mod stepping;
 
+pub use stepping::step;
 ghost use mathlib.Core.Path.{_≡_};
 ghost use Rattle.cpu.specs.Parts.{resetMachine};
 use memory::Memory;
@@ -85,6 +88,12 @@ struct Regs {
 enum Moved {
     To(Regs),
     Refused(Refusal),
+}
+
+// What a fetch finds.
+enum Fetched {
+    Word(u16),
+    Past,
 }
 
 // A step's answer and the registers after it, the cells and the stack apart.

@@ -8,13 +8,6 @@ pub fn say(text: &[u8]) {
     io::write_all(1, text);
 }
 
-// The last hexadecimal digit of n.
-fn digit(n: u16) {
-    let x = (n % 16) as u8;
-    let text = [if x < 10 { b'0' + x } else { b'A' + (x - 10) }];
-    say(&text);
-}
-
 // How many digits n has, or least where that is more.
 fn digits(n: u16, least: usize) -> usize {
     let needed = if n < 16 {
@@ -31,17 +24,13 @@ fn digits(n: u16, least: usize) -> usize {
 
 // At least as many digits as asked, and at most four.
 pub fn hex(n: u16, least: usize) {
+    let all = text::hex4(n);
     let width = digits(n, least);
-    if 3 < width {
-        digit(n / 4096);
+    if width < 4 {
+        say(&all[4 - width..]);
+    } else {
+        say(&all);
     }
-    if 2 < width {
-        digit(n / 256);
-    }
-    if 1 < width {
-        digit(n / 16);
-    }
-    digit(n);
 }
 
 fn alu_name(op: AluOp) {

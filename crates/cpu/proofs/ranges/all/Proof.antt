@@ -1,0 +1,36 @@
+use borrow.Author.Needs.{needs}
+use Rattle.cpu.proofs.ranges.all.Statement.{statement}
+use Rattle.cpu.proofs.ranges.all.Tie as tie
+use Rattle.cpu.proofs.ranges.all.Reads as reads
+use Rattle.cpu.proofs.ranges.all.Lts as lts
+use Rattle.cpu.proofs.ranges.input.Reads as input-reads
+use Rattle.cpu.proofs.ranges.machine.Reads as machine-reads
+use Rattle.cpu.proofs.ranges.rom.Reads as rom-reads
+
+-- src/ranges.rt:104:9
+machine-requires : tie.Need-machine-requires
+machine-requires c κs = search needs
+
+-- src/ranges.rt:105:9
+returns : tie.Need-returns
+returns c = ?
+
+-- src/ranges.rt:107:9
+input-requires : tie.Need-input-requires
+input-requires c κs = search needs
+
+-- src/ranges.rt:108:9
+returns-2 : tie.Need-returns-2
+returns-2 c = ?
+
+-- src/ranges.rt:110:5
+rom-requires : tie.Need-rom-requires
+rom-requires c κs = search needs
+
+-- src/ranges.rt:101:1
+returns-3 : tie.Need-returns-3
+returns-3 c = ?
+
+pub all-spec : {M : Type 1} → statement M
+all-spec =
+    tie.close (tie.spec machine-requires returns input-requires returns-2 rom-requires returns-3)

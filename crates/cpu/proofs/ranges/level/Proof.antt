@@ -1,0 +1,15 @@
+use Rattle.cpu.proofs.ranges.level.Statement.{statement}
+use Rattle.cpu.proofs.ranges.level.Tie as tie
+use Rattle.cpu.proofs.ranges.level.Reads as reads
+use Rattle.cpu.proofs.ranges.level.Lts as lts
+
+-- src/ranges.rt:35:9
+returns : tie.Need-returns
+returns c = ?
+
+-- src/ranges.rt:31:1
+returns-2 : tie.Need-returns-2
+returns-2 c = ?
+
+pub level-spec : {M : Type 1} → statement M
+level-spec = tie.close (tie.spec returns returns-2)

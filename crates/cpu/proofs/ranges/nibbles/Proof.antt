@@ -1,0 +1,60 @@
+use borrow.Author.Needs.{needs}
+use Rattle.cpu.proofs.ranges.nibbles.Statement.{statement}
+use Rattle.cpu.proofs.ranges.nibbles.Tie as tie
+use Rattle.cpu.proofs.ranges.nibbles.Reads as reads
+use Rattle.cpu.proofs.ranges.nibbles.Lts as lts
+
+-- src/ranges.rt:15:14
+array-read-if1 : tie.Need-array-read-if1
+array-read-if1 c = search needs
+
+-- src/ranges.rt:16:9
+returns : tie.Need-returns
+returns c = ?
+
+-- src/ranges.rt:18:14
+array-read-if2 : tie.Need-array-read-if2
+array-read-if2 c = search needs
+
+-- src/ranges.rt:19:9
+returns-2 : tie.Need-returns-2
+returns-2 c = ?
+
+-- src/ranges.rt:21:14
+array-read-if3 : tie.Need-array-read-if3
+array-read-if3 c = search needs
+
+-- src/ranges.rt:22:9
+returns-3 : tie.Need-returns-3
+returns-3 c = ?
+
+-- src/ranges.rt:24:14
+array-read-if4 : tie.Need-array-read-if4
+array-read-if4 c = search needs
+
+-- src/ranges.rt:25:9
+returns-4 : tie.Need-returns-4
+returns-4 c = ?
+
+-- src/ranges.rt:27:5
+array-read-result : tie.Need-array-read-result
+array-read-result c = search needs
+
+-- src/ranges.rt:12:1
+returns-5 : tie.Need-returns-5
+returns-5 c = ?
+
+pub nibbles-spec : {M : Type 1} → statement M
+nibbles-spec =
+    tie.close
+    (tie.spec
+    array-read-if1
+    returns
+    array-read-if2
+    returns-2
+    array-read-if3
+    returns-3
+    array-read-if4
+    returns-4
+    array-read-result
+    returns-5)

@@ -1,0 +1,46 @@
+use Prim.Native.Nat.{_≤_, _-_}
+use lib.ListN.{length}
+use borrow.Author.Needs.{needs}
+use Rattle.vectors_data.proofs.cells.show_each_kept.Statement.{statement}
+use Rattle.vectors_data.proofs.cells.show_each_kept.Tie as tie
+
+abbrev Inv-loop : tie.InvT-loop
+Inv-loop addresses i₀ i = i ≤ length addresses
+
+abbrev μ-loop : tie.MeasureT-loop
+μ-loop addresses i₀ i = length addresses - i
+
+loop-holds : tie.Need-loop-holds Inv-loop μ-loop
+loop-holds c = search needs
+
+shared-slice-read-show-kept : tie.Need-shared-slice-read-show-kept Inv-loop μ-loop
+shared-slice-read-show-kept c = search needs
+
+show-kept-requires : tie.Need-show-kept-requires Inv-loop μ-loop
+show-kept-requires c κs = search needs
+
+add-i : tie.Need-add-i Inv-loop μ-loop
+add-i c = search needs
+
+loop-less : tie.Need-loop-less Inv-loop μ-loop
+loop-less c = search needs
+
+loop-again : tie.Need-loop-again Inv-loop μ-loop
+loop-again c = search needs
+
+returns : tie.Need-returns Inv-loop μ-loop
+returns c = search needs
+
+pub show-each-kept-spec : {M : Type 1} → statement M
+show-each-kept-spec =
+    tie.close
+    (tie.spec
+    Inv-loop
+    μ-loop
+    loop-holds
+    shared-slice-read-show-kept
+    show-kept-requires
+    add-i
+    loop-less
+    loop-again
+    returns)
