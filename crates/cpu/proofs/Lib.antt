@@ -1,2 +1,4 @@
 pub mod Keeps
 pub mod Settled
+pub mod Phases
+pub mod Inside

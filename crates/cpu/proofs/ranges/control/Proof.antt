@@ -1,3 +1,7 @@
+use borrow.Author.Tests.{lt-ltb, le-ltb, le-leb, lt-leb, eq-eqb, ne-eqb, not-true, not-false}
+use mathlib.Core.Path.{sym, _∙_}
+use mathlib.Core.Bool.{and-true}
+use Rattle.cpu.specs.Ranges.{controlInRange}
 use borrow.Author.Needs.{needs}
 use Rattle.cpu.proofs.ranges.control.Statement.{statement}
 use Rattle.cpu.proofs.ranges.control.Tie as tie
@@ -7,11 +11,13 @@ use Rattle.cpu.proofs.ranges.level.Reads as level-reads
 
 -- src/ranges.rt:44:9
 returns : tie.Need-returns
-returns c = ?
+unfolding controlInRange
+returns c = rw (le-ltb _ _ (c .if1 .taken))
 
 -- src/ranges.rt:48:9
 returns-2 : tie.Need-returns-2
-returns-2 c = ?
+unfolding controlInRange
+returns-2 c = rw (lt-ltb _ _ (c .before .if1 .left), lt-leb _ _ (c .if2 .taken))
 
 -- src/ranges.rt:51:26
 array-read-level : tie.Need-array-read-level
@@ -23,7 +29,8 @@ level-requires c κs = search needs
 
 -- src/ranges.rt:52:9
 returns-3 : tie.Need-returns-3
-returns-3 c = ?
+unfolding controlInRange
+returns-3 c = rw (lt-ltb _ _ (c .before .before .before .before .if1 .left), le-leb _ _ (c .before .before .before .if2 .left), sym (c .before .level .ensures) ∙ not-true _ (c .if3 .taken))
 
 -- src/ranges.rt:54:26
 array-read-level-2 : tie.Need-array-read-level-2
@@ -35,7 +42,8 @@ level-requires-2 c κs = search needs
 
 -- src/ranges.rt:55:9
 returns-4 : tie.Need-returns-4
-returns-4 c = ?
+unfolding controlInRange
+returns-4 c = rw (lt-ltb _ _ (c .before .before .before .before .before .before .if1 .left), le-leb _ _ (c .before .before .before .before .before .if2 .left), sym (c .before .before .before .level .ensures) ∙ not-false _ (c .before .before .if3 .left), sym (c .before .level2 .ensures) ∙ not-true _ (c .if4 .taken))
 
 -- src/ranges.rt:57:26
 array-read-level-3 : tie.Need-array-read-level-3
@@ -47,7 +55,8 @@ level-requires-3 c κs = search needs
 
 -- src/ranges.rt:58:9
 returns-5 : tie.Need-returns-5
-returns-5 c = ?
+unfolding controlInRange
+returns-5 c = rw (lt-ltb _ _ (c .before .before .before .before .before .before .before .before .if1 .left), le-leb _ _ (c .before .before .before .before .before .before .before .if2 .left), sym (c .before .before .before .before .before .level .ensures) ∙ not-false _ (c .before .before .before .before .if3 .left), sym (c .before .before .before .level2 .ensures) ∙ not-false _ (c .before .before .if4 .left), sym (c .before .level3 .ensures) ∙ not-true _ (c .if5 .taken))
 
 -- src/ranges.rt:60:26
 array-read-level-4 : tie.Need-array-read-level-4
@@ -59,7 +68,8 @@ level-requires-4 c κs = search needs
 
 -- src/ranges.rt:61:9
 returns-6 : tie.Need-returns-6
-returns-6 c = ?
+unfolding controlInRange
+returns-6 c = rw (lt-ltb _ _ (c .before .before .before .before .before .before .before .before .before .before .if1 .left), le-leb _ _ (c .before .before .before .before .before .before .before .before .before .if2 .left), sym (c .before .before .before .before .before .before .before .level .ensures) ∙ not-false _ (c .before .before .before .before .before .before .if3 .left), sym (c .before .before .before .before .before .level2 .ensures) ∙ not-false _ (c .before .before .before .before .if4 .left), sym (c .before .before .before .level3 .ensures) ∙ not-false _ (c .before .before .if5 .left), sym (c .before .level4 .ensures) ∙ not-true _ (c .if6 .taken))
 
 -- src/ranges.rt:63:22
 array-read-level-5 : tie.Need-array-read-level-5
@@ -71,7 +81,8 @@ level-requires-5 c κs = search needs
 
 -- src/ranges.rt:40:1
 returns-7 : tie.Need-returns-7
-returns-7 c = ?
+unfolding controlInRange
+returns-7 c = rw (lt-ltb _ _ (c .before .before .before .before .before .before .before .before .before .before .before .if1 .left), le-leb _ _ (c .before .before .before .before .before .before .before .before .before .before .if2 .left), sym (c .before .before .before .before .before .before .before .before .level .ensures) ∙ not-false _ (c .before .before .before .before .before .before .before .if3 .left), sym (c .before .before .before .before .before .before .level2 .ensures) ∙ not-false _ (c .before .before .before .before .before .if4 .left), sym (c .before .before .before .before .level3 .ensures) ∙ not-false _ (c .before .before .before .if5 .left), sym (c .before .before .level4 .ensures) ∙ not-false _ (c .before .if6 .left), c .level5 .ensures, and-true)
 
 pub control-spec : {M : Type 1} → statement M
 control-spec =

@@ -1,3 +1,6 @@
+use borrow.Author.Tests.{lt-ltb, le-ltb, le-leb, lt-leb, eq-eqb, ne-eqb, not-true, not-false}
+use mathlib.Core.Path.{sym, _∙_}
+use Rattle.cpu.specs.Ranges.{inputInRange}
 use borrow.Author.Needs.{needs}
 use Rattle.cpu.proofs.ranges.input.Statement.{statement}
 use Rattle.cpu.proofs.ranges.input.Tie as tie
@@ -11,7 +14,8 @@ nibbles-requires c κs = search needs
 
 -- src/ranges.rt:82:9
 returns : tie.Need-returns
-returns c = ?
+unfolding inputInRange
+returns c = simp (sym (c .before .nibbles .ensures) ∙ not-true _ (c .if1 .taken))
 
 -- src/ranges.rt:85:9
 nibbles-requires-2 : tie.Need-nibbles-requires-2
@@ -19,11 +23,13 @@ nibbles-requires-2 c κs = search needs
 
 -- src/ranges.rt:86:9
 returns-2 : tie.Need-returns-2
-returns-2 c = ?
+unfolding inputInRange
+returns-2 c = simp (sym (c .before .before .before .before .nibbles .ensures) ∙ not-false _ (c .before .before .before .if1 .left), sym (c .before .nibbles2 .ensures) ∙ not-true _ (c .if2 .taken))
 
 -- src/ranges.rt:77:1
 returns-3 : tie.Need-returns-3
-returns-3 c = ?
+unfolding inputInRange
+returns-3 c = simp (sym (c .before .before .before .before .before .nibbles .ensures) ∙ not-false _ (c .before .before .before .before .if1 .left), sym (c .before .before .nibbles2 .ensures) ∙ not-false _ (c .before .if2 .left))
 
 pub input-spec : {M : Type 1} → statement M
 input-spec = tie.close (tie.spec nibbles-requires returns nibbles-requires-2 returns-2 returns-3)

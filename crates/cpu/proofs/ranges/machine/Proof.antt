@@ -1,3 +1,6 @@
+use borrow.Author.Tests.{lt-ltb, le-ltb, le-leb, lt-leb, eq-eqb, ne-eqb, not-true, not-false}
+use mathlib.Core.Path.{sym, _∙_}
+use Rattle.cpu.specs.Ranges.{machineInRange}
 use borrow.Author.Needs.{needs}
 use Rattle.cpu.proofs.ranges.machine.Statement.{statement}
 use Rattle.cpu.proofs.ranges.machine.Tie as tie
@@ -12,7 +15,8 @@ in-range-requires c κs = search needs
 
 -- src/ranges.rt:72:9
 returns : tie.Need-returns
-returns c = ?
+unfolding machineInRange
+returns c = simp (sym (c .before .in-range .ensures) ∙ not-true _ (c .if1 .taken))
 
 -- src/ranges.rt:74:5
 control-requires : tie.Need-control-requires
@@ -20,7 +24,8 @@ control-requires c κs = search needs
 
 -- src/ranges.rt:66:1
 returns-2 : tie.Need-returns-2
-returns-2 c = ?
+unfolding machineInRange
+returns-2 c = simp (sym (c .before .before .in-range .ensures) ∙ not-false _ (c .before .if1 .left)) (c .control .ensures)
 
 pub machine-spec : {M : Type 1} → statement M
 machine-spec = tie.close (tie.spec in-range-requires returns control-requires returns-2)

@@ -1,3 +1,8 @@
+use borrow.Author.Tests.{lt-ltb, le-ltb, le-leb, lt-leb, eq-eqb, ne-eqb, not-true, not-false}
+use mathlib.Core.Path.{sym, _∙_}
+use Rattle.cpu.specs.Ranges.{romInRange}
+use lib.ListN.{length}
+use native.Mathlib.Omega.{arith}
 use Rattle.cpu.proofs.ranges.rom.Statement.{statement}
 use Rattle.cpu.proofs.ranges.rom.Tie as tie
 use Rattle.cpu.proofs.ranges.rom.Reads as reads
@@ -5,11 +10,13 @@ use Rattle.cpu.proofs.ranges.rom.Lts as lts
 
 -- src/ranges.rt:95:9
 returns : tie.Need-returns
-returns c = ?
+unfolding romInRange
+returns c = simp (c .if1 .taken)
 
 -- src/ranges.rt:91:1
 returns-2 : tie.Need-returns-2
-returns-2 c = ?
+unfolding romInRange
+returns-2 c = rw (lt-ltb 0 (length (c .before .args .words .now)) (omega arith))
 
 pub rom-spec : {M : Type 1} → statement M
 rom-spec = tie.close (tie.spec returns returns-2)

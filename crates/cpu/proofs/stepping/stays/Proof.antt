@@ -6,11 +6,11 @@ use Rattle.cpu.proofs.stepping.stays.Lts as lts
 
 -- src/stepping.rt:45:9
 returns : tie.Need-returns
-returns c = ?
+returns c = rw (c .before .if1 .taken)
 
 -- src/stepping.rt:41:1
 returns-2 : tie.Need-returns-2
-returns-2 c = search needs
+returns-2 c = rw (c .if1 .left)
 
 pub stays-spec : {M : Type 1} → statement M
 stays-spec = tie.close (tie.spec returns returns-2)
