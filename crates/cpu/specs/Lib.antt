@@ -7,3 +7,4 @@ pub mod Data
 pub mod Step
 pub mod Run
 pub mod Inside
+pub mod RangeLaws
