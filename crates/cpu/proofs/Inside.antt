@@ -11,7 +11,7 @@ use Rattle.laws.specs.Every.{every}
 use Rattle.memory.specs.Chip.{Chip}
 use Rattle.memory.specs.Range.{cellsInRange}
 use Rattle.cpu.specs.Parts.{cellsOf}
-use Rattle.cpu.specs.Ranges.{levelInRange, controlInRange, machineInRange, inputInRange, romInRange, allInRange}
+use Rattle.cpu.specs.Ranges.{places, levelInRange, controlInRange, machineInRange, inputInRange, romInRange, allInRange}
 use Rattle.cpu.specs.declared.Control.{Control}
 use Rattle.cpu.specs.declared.Input.{Input}
 use Rattle.cpu.specs.declared.Machine.{Machine}
@@ -34,9 +34,9 @@ module _ (chip : Chip) where
   machine-parts m e = both (cellsInRange chip (cellsOf m)) (controlInRange chip (m .control)) e
 
   pub control-parts : (c : Control) → controlInRange chip c ≡ true
-      → (c .pc < 2 ^ chip .pcBits) × ((c .levels ≤ chip .levels) × (every (levelInRange chip c) (chip .levels) ≡ true))
+      → (c .pc < 2 ^ chip .pcBits) × ((c .levels ≤ chip .levels) × (every (levelInRange chip c) places ≡ true))
   unfolding controlInRange
   control-parts c e =
-      let f = both (ltb (c .pc) (2 ^ chip .pcBits)) (leb (c .levels) (chip .levels) && every (levelInRange chip c) (chip .levels)) e in
-      let g = both (leb (c .levels) (chip .levels)) (every (levelInRange chip c) (chip .levels)) (f .1) in
+      let f = both (ltb (c .pc) (2 ^ chip .pcBits)) (leb (c .levels) (chip .levels) && every (levelInRange chip c) places) e in
+      let g = both (leb (c .levels) (chip .levels)) (every (levelInRange chip c) places) (f .1) in
       (ltb-true (c .pc) (2 ^ chip .pcBits) (f .0), (leb-true (c .levels) (chip .levels) (g .0), g .1))

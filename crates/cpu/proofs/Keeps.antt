@@ -10,34 +10,34 @@ use Rattle.isa.specs.declared.FixedOp.the-variants.{IncAr, IncIx, Movt, PushAr,
 use Rattle.isa.specs.declared.Instruction.{Instruction}
 use Rattle.isa.specs.declared.Instruction.the-variants.{AluRegister, AluImmediate, Skip, Rorc, Ld, St, MovToIndirect, MovFromIndirect, MovImmediate, Peek, Poke, Get, Put, Br, Call, Stop, Halt, Fixed}
 use Rattle.memory.specs.Chip.{Chip}
-use Rattle.cpu.specs.Control.{Shift, goes, stops, jump, marked, push, pop, top, next, onwards, unlessFull, unlessEmpty, inReach, controlOf, branchOf, callOf, returnOf, pushOf, popOf, tableOf, standOf, onwardOf}
+use Rattle.cpu.specs.Control.{Transfer, goes, denies, jump, marked, push, pop, top, next, onwards, unlessFull, unlessEmpty, inReach, controlOf, branchOf, callOf, returnOf, pushOf, popOf, tableOf, standbyOf, onwardOf}
 use Rattle.cpu.specs.declared.Control.{Control}
 
-abbrev pub Keeps : Control → Shift → Type 0
+abbrev pub Keeps : Control → Transfer → Type 0
 Keeps c s = eqb (s .refusal) 0 ≡ false → s .control ≡ c
 
 gone : (c after : Control) → Keeps c (goes after)
 gone c after e = absurd (let z : _≡_ {A = ℕ} 0 1 = cc in omega arith)
 
-kept : (n : ℕ) (c : Control) → Keeps c (stops n c)
+kept : (n : ℕ) (c : Control) → Keeps c (denies n c)
 kept n c e = refl
 
-either : (b : Bool) (c : Control) (s t : Shift) → Keeps c s → Keeps c t → Keeps c (cond b s t)
+either : (b : Bool) (c : Control) (s t : Transfer) → Keeps c s → Keeps c t → Keeps c (cond b s t)
 either true c s t k l = k
 either false c s t k l = l
 
 module _ (chip : Chip) (c : Control) where
   full : (after : Control) → Keeps c (unlessFull chip c after)
-  full after = either (leb (chip .levels) (c .levels)) c (stops 6 c) (goes after) (kept 6 c) (gone c after)
+  full after = either (leb (chip .levels) (c .levels)) c (denies 6 c) (goes after) (kept 6 c) (gone c after)
 
   empty : (after : Control) → Keeps c (unlessEmpty chip c after)
-  empty after = either (eqb (c .levels) 0) c (stops 7 c) (goes after) (kept 7 c) (gone c after)
+  empty after = either (eqb (c .levels) 0) c (denies 7 c) (goes after) (kept 7 c) (gone c after)
 
-  reached : (to : ℕ) (s : Shift) → Keeps c s → Keeps c (inReach chip to c s)
-  reached to s k = either (leb (2 ^ chip .pcBits) to) c (stops 5 c) s (kept 5 c) k
+  reached : (to : ℕ) (s : Transfer) → Keeps c s → Keeps c (inReach chip to c s)
+  reached to s k = either (leb (2 ^ chip .pcBits) to) c (denies 5 c) s (kept 5 c) k
 
   pub keeps : (i : Instruction) (skips : Bool) (ar : ℕ) → Keeps c (controlOf chip i skips ar c)
-  unfolding controlOf branchOf callOf returnOf pushOf popOf tableOf standOf onwardOf
+  unfolding controlOf branchOf callOf returnOf pushOf popOf tableOf standbyOf onwardOf
   keeps (AluRegister op r m) skips ar = gone c _
   keeps (AluImmediate op m n4) skips ar = gone c _
   keeps (Skip op m n4) skips ar = gone c _

@@ -16,11 +16,12 @@ use Rattle.laws.proofs.Every.{every-at, every-of, passed, holds}
 use Rattle.laws.proofs.Wrap.{wrap-below}
 use Rattle.memory.specs.Chip.{Chip}
 use Rattle.cpu.specs.Control.{jump, marked, push, pop, top, next, onwards}
-use Rattle.cpu.specs.Ranges.{levelInRange, controlInRange}
+use Rattle.cpu.specs.Ranges.{places, levelInRange, controlInRange}
 use Rattle.cpu.specs.declared.Control.{Control}
 use Rattle.cpu.proofs.Inside.{control-parts}
 
-module _ (chip : Chip) where
+-- the chip has no more levels than the record has places
+module _ (chip : Chip) (small : chip .levels ≤ places) where
   abbrev bound : ℕ
   bound = 2 ^ chip .pcBits
 
@@ -44,27 +45,27 @@ module _ (chip : Chip) where
   pub record Fine (c : Control) : Type 0 where
     pub pc : c .pc < bound
     pub levels : c .levels ≤ chip .levels
-    pub places : (k : ℕ) → k < chip .levels → Level (ltb k (c .levels)) (getD (c .stack) k 0)
+    pub each : (k : ℕ) → k < places → Level (ltb k (c .levels)) (getD (c .stack) k 0)
 
   pub fine : (c : Control) → controlInRange chip c ≡ true → Fine c
   fine c e =
       let p = control-parts chip c e in
-      record { pc = p .0; levels = p .1 .0; places = λ k h. every-at (levelInRange chip c) (chip .levels) (passed (p .1 .1)) k h }
+      record { pc = p .0; levels = p .1 .0; each = λ k h. every-at (levelInRange chip c) places (passed (p .1 .1)) k h }
 
   pub in-range : (c : Control) → Fine c → controlInRange chip c ≡ true
   unfolding controlInRange
   in-range c f =
       rw (lt-ltb (c .pc) bound (f .pc), le-leb (c .levels) (chip .levels) (f .levels))
-      (holds (every-of (levelInRange chip c) (chip .levels) (f .places)))
+      (holds (every-of (levelInRange chip c) places (f .each)))
 
   pub jumped : (to : ℕ) (c : Control) → to < bound → Fine c → Fine (jump to c)
-  jumped to c h f = record { pc = h; levels = f .levels; places = f .places }
+  jumped to c h f = record { pc = h; levels = f .levels; each = f .each }
 
   pub went-on : (c : Control) → Fine c → Fine (onwards chip c)
   went-on c f = jumped (next chip c) c (wrap-below (chip .pcBits) (c .pc)) f
 
   pub with-marks : (skip standby : Bool) (c : Control) → Fine c → Fine (marked skip standby c)
-  with-marks skip standby c f = record { pc = f .pc; levels = f .levels; places = f .places }
+  with-marks skip standby c f = record { pc = f .pc; levels = f .levels; each = f .each }
 
   pushed-level : (stack : List ℕ) (n a k : ℕ) (below here inside : Bool) → ltb k n ≡ below → eqb k n ≡ here
       → ltb n (length stack) ≡ inside → a < bound → Level (ltb k n) (getD stack k 0) → Level (ltb k (n + 1)) (getD (set stack n a) k 0)
@@ -86,9 +87,9 @@ module _ (chip : Chip) where
   pushed a c h l f = record {
     pc = f .pc;
     levels = omega arith;
-    places = λ k b.
+    each = λ k b.
       pushed-level (c .stack) (c .levels) a k (ltb k (c .levels)) (eqb k (c .levels)) (ltb (c .levels) (length (c .stack))) refl refl refl h
-      (f .places k b);
+      (f .each k b);
   }
 
   popped-level : (stack : List ℕ) (n k : ℕ) (below here inside : Bool) → 0 < n → ltb k (n - 1) ≡ below → eqb k (n - 1) ≡ here
@@ -114,12 +115,12 @@ module _ (chip : Chip) where
   popped c p f = record {
     pc = f .pc;
     levels = omega (arith, f .levels);
-    places = λ k b.
+    each = λ k b.
       popped-level (c .stack) (c .levels) k (ltb k (c .levels - 1)) (eqb k (c .levels - 1)) (ltb (c .levels - 1) (length (c .stack))) p
-      refl refl refl (f .places k b);
+      refl refl refl (f .each k b);
   }
 
   pub top-below : (c : Control) → 0 < c .levels → Fine c → top c < bound
   top-below c p f =
       open-below (ltb (c .levels - 1) (c .levels)) (top c) (lt-ltb (c .levels - 1) (c .levels) (omega arith))
-      (f .places (c .levels - 1) (omega (arith, f .levels)))
+      (f .each (c .levels - 1) (omega (arith, f .levels)))

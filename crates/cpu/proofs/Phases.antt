@@ -14,13 +14,13 @@ use Rattle.isa.specs.declared.FixedOp.the-variants.{IncAr, IncIx, Movt, PushAr,
 use Rattle.isa.specs.declared.Instruction.{Instruction}
 use Rattle.isa.specs.declared.Instruction.the-variants.{AluRegister, AluImmediate, Skip, Rorc, Ld, St, MovToIndirect, MovFromIndirect, MovImmediate, Peek, Poke, Get, Put, Br, Call, Stop, Halt, Fixed}
 use Rattle.memory.specs.Chip.{Chip}
-use Rattle.cpu.specs.Answers.{Outcome, done, standing, refused, Step}
+use Rattle.cpu.specs.Answers.{Reply, done, inStandby, refused, Step}
 use Rattle.memory.specs.Registers.{arOf}
-use Rattle.cpu.specs.Control.{Shift, controlOf}
+use Rattle.cpu.specs.Control.{Transfer, controlOf}
 use Rattle.cpu.specs.Data.{skipsOf}
 use Rattle.cpu.specs.Parts.{cellsOf, machineOf}
 use Rattle.cpu.specs.Inside.{fetchedOf}
-use Rattle.cpu.specs.Step.{stopped, completed, dataOf, writtenOf, pastTable, woken, leaving, inBase, runnable, runsOf, executeOf, decodedOf, passOver, fetchOf, advanceOf}
+use Rattle.cpu.specs.Step.{denied, completed, dataOf, writtenOf, pastTable, woken, leaving, inBase, runnable, runsOf, executeOf, decodedOf, passOver, fetchOf, advanceOf}
 use Rattle.cpu.specs.declared.Fetched.{Fetched}
 use Rattle.cpu.specs.declared.Fetched.the-variants.{Word, Past}
 use Rattle.cpu.specs.declared.Input.{Input}
@@ -46,11 +46,11 @@ other true x y e = absurd (let z : _≡_ {A = ℕ} 0 1 = cc in omega arith)
 other false x y e = refl
 
 module _ (chip : Chip) (rom : List ℕ) (input : Input) where
-  never : (i : Instruction) (m : Machine) → true ≡ false → executeOf chip rom input i m ≡ stopped 4 m
+  never : (i : Instruction) (m : Machine) → true ≡ false → executeOf chip rom input i m ≡ denied 4 m
   never i m e = absurd (let z : _≡_ {A = ℕ} 0 1 = cc in omega arith)
 
   -- the executor refuses by itself what refusal 4 names
-  barred : (i : Instruction) (m : Machine) → inBase i ≡ false → executeOf chip rom input i m ≡ stopped 4 m
+  barred : (i : Instruction) (m : Machine) → inBase i ≡ false → executeOf chip rom input i m ≡ denied 4 m
   unfolding inBase executeOf controlOf
   barred (AluRegister op r x) m e = never (AluRegister op r x) m e
   barred (AluImmediate op x n4) m e = never (AluImmediate op x n4) m e
@@ -94,40 +94,40 @@ module _ (chip : Chip) (rom : List ℕ) (input : Input) where
 
   -- a refused instruction leaves the record as it came
   settled-kept : (b t : Bool) (m after : Machine) (k n : ℕ)
-      → (cond b (cond t (stopped 8 m) (completed after)) (stopped k m)) .outcome ≡ refused n
-      → (cond b (cond t (stopped 8 m) (completed after)) (stopped k m)) .machine ≡ m
+      → (cond b (cond t (denied 8 m) (completed after)) (denied k m)) .reply ≡ refused n
+      → (cond b (cond t (denied 8 m) (completed after)) (denied k m)) .machine ≡ m
   settled-kept true true m after k n e = refl
   settled-kept true false m after k n e = absurd (let z : _≡_ {A = ℕ} 0 1 = cc in omega arith)
   settled-kept false true m after k n e = refl
   settled-kept false false m after k n e = refl
 
-  executed-kept : (i : Instruction) (m : Machine) (n : ℕ) → (executeOf chip rom input i m) .outcome ≡ refused n
+  executed-kept : (i : Instruction) (m : Machine) (n : ℕ) → (executeOf chip rom input i m) .reply ≡ refused n
       → (executeOf chip rom input i m) .machine ≡ m
   unfolding executeOf
   executed-kept i m n e =
-      let s : Shift = controlOf chip i (skipsOf chip (dataOf m input) i) (arOf (cellsOf m)) (m .control) in
+      let s : Transfer = controlOf chip i (skipsOf chip (dataOf m input) i) (arOf (cellsOf m)) (m .control) in
       settled-kept (eqb (s .refusal) 0) (pastTable rom (arOf (cellsOf m)) i) m
       (machineOf (writtenOf chip rom input i m) (s .control)) (s .refusal) n e
 
-  pub refused-kept : (i : Instruction) (m left : Machine) (n : ℕ) → stopped n left ≡ executeOf chip rom input i m → left ≡ m
+  pub refused-kept : (i : Instruction) (m left : Machine) (n : ℕ) → denied n left ≡ executeOf chip rom input i m → left ≡ m
   refused-kept i m left n e =
-      ap (λ (s : Step). s .machine) e ∙ executed-kept i m n (sym (ap (λ (s : Step). s .outcome) e))
+      ap (λ (s : Step). s .machine) e ∙ executed-kept i m n (sym (ap (λ (s : Step). s .reply) e))
 
   module _ (m : Machine) where
     pub stays : (m .control .standby && eqb (input .release) 0) ≡ true
-        → record { outcome = standing; machine = m } ≡ advanceOf chip rom input m
+        → record { reply = inStandby; machine = m } ≡ advanceOf chip rom input m
     unfolding advanceOf
     stays e = rw e
 
     module _ (awake : (m .control .standby && eqb (input .release) 0) ≡ false) where
       goes-on : (s : Step) → s ≡ fetchOf chip rom input (woken m)
-          → leaving m (s .machine) (s .outcome) ≡ advanceOf chip rom input m
+          → leaving m (s .machine) (s .reply) ≡ advanceOf chip rom input m
       unfolding advanceOf
       goes-on s e = rw (awake, ← e)
 
-      pub past : leb (length rom) (m .control .pc) ≡ true → stopped 2 m ≡ advanceOf chip rom input m
+      pub past : leb (length rom) (m .control .pc) ≡ true → denied 2 m ≡ advanceOf chip rom input m
       unfolding fetchOf
-      past p = goes-on (stopped 2 (woken m)) (rw p)
+      past p = goes-on (denied 2 (woken m)) (rw p)
 
       module _ (inside : leb (length rom) (m .control .pc) ≡ false) where
         pub passed-over : m .control .skip ≡ true
@@ -136,15 +136,15 @@ module _ (chip : Chip) (rom : List ℕ) (input : Input) where
         passed-over s = goes-on (passOver chip rom input (woken m)) (rw (inside, s))
 
         module _ (plain : m .control .skip ≡ false) where
-          pub undecodable : decodeOf (getD rom (m .control .pc) 0) ≡ undecoded 3 → stopped 3 m ≡ advanceOf chip rom input m
+          pub undecodable : decodeOf (getD rom (m .control .pc) 0) ≡ undecoded 3 → denied 3 m ≡ advanceOf chip rom input m
           unfolding fetchOf runnable
           undecodable d =
-              goes-on (stopped 3 (woken m))
+              goes-on (denied 3 (woken m))
               (rw inside
               (ap (λ (x : Decoding). decodedOf chip rom input (woken m) (runnable x)) (sym d) ∙ other (m .control .skip) _ _ plain))
 
           pub executed : (i : Instruction) (s : Step) → decodeOf (getD rom (m .control .pc) 0) ≡ is i
-              → s ≡ executeOf chip rom input i (woken m) → leaving m (s .machine) (s .outcome) ≡ advanceOf chip rom input m
+              → s ≡ executeOf chip rom input i (woken m) → leaving m (s .machine) (s .reply) ≡ advanceOf chip rom input m
           unfolding fetchOf
           executed i s d e =
               goes-on s

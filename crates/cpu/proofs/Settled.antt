@@ -10,11 +10,11 @@ use Rattle.isa.specs.declared.Instruction.{Instruction}
 use Rattle.memory.specs.Chip.{Chip}
 use Rattle.memory.specs.Registers.{arOf}
 use Rattle.cpu.specs.Answers.{Step, numberOf}
-use Rattle.cpu.specs.Control.{Shift, goes, stops, controlOf}
+use Rattle.cpu.specs.Control.{Transfer, goes, denies, controlOf}
 use Rattle.cpu.specs.Data.{skipsOf}
-use Rattle.cpu.specs.Inside.{shiftOf, executedOf}
+use Rattle.cpu.specs.Inside.{transferOf, executedOf}
 use Rattle.cpu.specs.Parts.{withStack, wholeOf, machineOf}
-use Rattle.cpu.specs.Step.{executeOf, settleOf, writtenOf, pastTable, dataOf, completed, stopped}
+use Rattle.cpu.specs.Step.{executeOf, settleOf, writtenOf, pastTable, dataOf, completed, denied}
 use Rattle.cpu.specs.declared.Control.{Control}
 use Rattle.cpu.specs.declared.Input.{Input}
 use Rattle.cpu.specs.declared.Machine.{Machine}
@@ -39,7 +39,7 @@ module _ (chip : Chip) (rom : List ℕ) (input : Input) (cells stack : List ℕ)
   abbrev before : Machine
   before = wholeOf cells stack regs
 
-  abbrev shift : Shift
+  abbrev shift : Transfer
   shift = controlOf chip i (skipsOf chip (dataOf before input) i) (arOf cells) (withStack stack regs)
 
   -- control goes on, and no table is missed
@@ -50,29 +50,29 @@ module _ (chip : Chip) (rom : List ℕ) (input : Input) (cells stack : List ℕ)
 
   -- control goes on, and the table is missed
   pub misses : (left : List ℕ) (r : Regs) → goes (withStack left r) ≡ shift → pastTable rom (arOf cells) i ≡ true
-      → stopped 8 before ≡ executeOf chip rom input i before
+      → denied 8 before ≡ executeOf chip rom input i before
   unfolding executeOf
   misses left r e t = rw (← e, t)
 
-  pub refuses : (q : Refusal) (left : List ℕ) → stops (numberOf q) (withStack left regs) ≡ shift
-      → stopped (numberOf q) (wholeOf cells left regs) ≡ executeOf chip rom input i before
+  pub refuses : (q : Refusal) (left : List ℕ) → denies (numberOf q) (withStack left regs) ≡ shift
+      → denied (numberOf q) (wholeOf cells left regs) ≡ executeOf chip rom input i before
   unfolding executeOf
   refuses q left e =
-      let k : Keeps (withStack stack regs) (stops (numberOf q) (withStack left regs))
+      let k : Keeps (withStack stack regs) (denies (numberOf q) (withStack left regs))
       = subst (Keeps (withStack stack regs)) (sym e) (keeps chip (withStack stack regs) i (skipsOf chip (dataOf before input) i) (arOf cells)) in
-      rw (← e, number-not-0 q) (ap (λ (c : Control). stopped (numberOf q) (machineOf cells c)) (k (number-not-0 q)))
+      rw (← e, number-not-0 q) (ap (λ (c : Control). denied (numberOf q) (machineOf cells c)) (k (number-not-0 q)))
 
   -- an instruction that writes no cell
-  pub moves : (q : Moved) (left : List ℕ) → shiftOf left regs q ≡ shift → pastTable rom (arOf cells) i ≡ false
+  pub moves : (q : Moved) (left : List ℕ) → transferOf left regs q ≡ shift → pastTable rom (arOf cells) i ≡ false
       → cells ≡ writtenOf chip rom input i before → executedOf cells left regs q ≡ executeOf chip rom input i before
   moves (To r) left e t h = completes cells left r e t h
   moves (Refused q) left e t h = refuses q left e
 
   -- an instruction that control is known not to refuse
-  pub passes : (q : Moved) (after left : List ℕ) → shiftOf left regs q ≡ shift → eqb (shift .refusal) 0 ≡ true
+  pub passes : (q : Moved) (after left : List ℕ) → transferOf left regs q ≡ shift → eqb (shift .refusal) 0 ≡ true
       → pastTable rom (arOf cells) i ≡ false → after ≡ writtenOf chip rom input i before
       → executedOf after left regs q ≡ executeOf chip rom input i before
   passes (To r) after left e p t h = completes after left r e t h
   passes (Refused q) after left e p t h =
-      let n : eqb (numberOf q) 0 ≡ true = ap (λ (s : Shift). eqb (s .refusal) 0) e ∙ p in
+      let n : eqb (numberOf q) 0 ≡ true = ap (λ (s : Transfer). eqb (s .refusal) 0) e ∙ p in
       absurd (let z : _≡_ {A = ℕ} 0 1 = cc (number-not-0 q) in omega arith)

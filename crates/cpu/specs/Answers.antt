@@ -25,35 +25,34 @@ numberOf StackEmpty = 7
 numberOf PastTable = 8
 
 -- a step is completed, answers "standing", or is refused with a number
-pub data Outcome : Type 0 where
-  done : Outcome
-  standing : Outcome
-  refused : ℕ → Outcome
+pub data Reply : Type 0 where
+  done : Reply
+  inStandby : Reply
+  refused : ℕ → Reply
 
-abbrev pub outcomeOf : Answer → Outcome
-outcomeOf Done = done
-outcomeOf Standby = standing
-outcomeOf (Refused r) = refused (numberOf r)
+abbrev pub replyOf : Answer → Reply
+replyOf Done = done
+replyOf Standby = inStandby
+replyOf (Refused r) = refused (numberOf r)
 
--- "each completed step counts one"; one that answers "standing" or is refused is not completed
-abbrev pub stepsOf : Outcome → ℕ
-stepsOf done = 1
-stepsOf standing = 0
-stepsOf (refused n) = 0
+-- what a step counts for
+pub record Cost : Type 0 where
+  pub steps : ℕ
+  pub cycles : ℕ
 
--- "each completed step counts one cycle"
-abbrev pub cyclesOf : Outcome → ℕ
-cyclesOf done = 1
-cyclesOf standing = 0
-cyclesOf (refused n) = 0
+-- "Each completed step counts one cycle"; one that answers "standing", or is refused, is not completed
+abbrev pub costOf : Reply → Cost
+costOf done = record { steps = 1; cycles = 1 }
+costOf inStandby = record { steps = 0; cycles = 0 }
+costOf (refused n) = record { steps = 0; cycles = 0 }
 
 -- a step's answer and the record after it
 pub record Step : Type 0 where
-  pub outcome : Outcome
+  pub reply : Reply
   pub machine : Machine
 
 abbrev pub stepOfStepped : Stepped → Step
-stepOfStepped s = record { outcome = outcomeOf (s .answer); machine = s .machine }
+stepOfStepped s = record { reply = replyOf (s .answer); machine = s .machine }
 
 -- the refusal that a run ended with, 0 for none
 abbrev pub endOf : End → ℕ
@@ -65,6 +64,11 @@ pub record Run : Type 0 where
   pub steps : ℕ
   pub refusal : ℕ
   pub machine : Machine
+
+-- what stands for each answer loses nothing
+pub record Faithful : Type 0 where
+  pub replies : (a b : Answer) → replyOf a ≡ replyOf b → a ≡ b
+  pub ends : (a b : End) → endOf a ≡ endOf b → a ≡ b
 
 abbrev pub runOfRan : Ran → Run
 runOfRan r = record { steps = r .report .steps; refusal = endOf (r .report .end); machine = r .machine }

@@ -13,19 +13,23 @@ use Rattle.memory.specs.Chip.{Chip}
 use Rattle.cpu.specs.declared.Control.{Control}
 
 -- a refusal, 0 for none, and the control after it
-pub record Shift : Type 0 where
+pub record Transfer : Type 0 where
   pub refusal : ℕ
   pub control : Control
 
-abbrev pub goes : Control → Shift
+abbrev pub goes : Control → Transfer
 goes c = record { refusal = 0; control = c }
 
 -- a refusal leaves the control as it came
-abbrev pub stops : ℕ → Control → Shift
-stops n c = record { refusal = n; control = c }
+abbrev pub denies : ℕ → Control → Transfer
+denies n c = record { refusal = n; control = c }
 
 abbrev pub jump : ℕ → Control → Control
 jump to c = record { pc = to; stack = c .stack; levels = c .levels; skip = c .skip; standby = c .standby }
+
+-- the mark that document 01 calls standing
+abbrev pub isStandby : Control → Bool
+isStandby c = c .standby
 
 -- the two marks, skip pending and standing
 abbrev pub marked : Bool → Bool → Control → Control
@@ -52,51 +56,52 @@ module _ (chip : Chip) where
   onwards c = jump (next c) c
 
   -- refusal 6: stack full
-  abbrev pub unlessFull : Control → Control → Shift
-  unlessFull c after = cond (leb (chip .levels) (c .levels)) (stops 6 c) (goes after)
+  abbrev pub unlessFull : Control → Control → Transfer
+  unlessFull c after = cond (leb (chip .levels) (c .levels)) (denies 6 c) (goes after)
 
   -- refusal 7: stack empty
-  abbrev pub unlessEmpty : Control → Control → Shift
-  unlessEmpty c after = cond (eqb (c .levels) 0) (stops 7 c) (goes after)
+  abbrev pub unlessEmpty : Control → Control → Transfer
+  unlessEmpty c after = cond (eqb (c .levels) 0) (denies 7 c) (goes after)
 
   -- refusal 5: BR or CALL address of 1,024 or more, tried before the stack
-  abbrev pub inReach : ℕ → Control → Shift → Shift
-  inReach to c after = cond (leb (2 ^ chip .pcBits) to) (stops 5 c) after
+  abbrev pub inReach : ℕ → Control → Transfer → Transfer
+  inReach to c after = cond (leb (2 ^ chip .pcBits) to) (denies 5 c) after
 
   -- BR
-  unfoldable pub branchOf : ℕ → Control → Shift
+  unfoldable pub branchOf : ℕ → Control → Transfer
   branchOf to c = inReach to c (goes (jump to c))
 
   -- CALL and CALL @AR stack the next PC
-  unfoldable pub callOf : ℕ → Control → Shift
+  unfoldable pub callOf : ℕ → Control → Transfer
   callOf to c = unlessFull c (jump to (push (next c) c))
 
   -- RET goes back, and RETSK with the skip mark set
-  unfoldable pub returnOf : Bool → Control → Shift
+  unfoldable pub returnOf : Bool → Control → Transfer
   returnOf skip c = unlessEmpty c (marked skip (c .standby) (jump (top c) (pop c)))
 
   -- PUSH AR
-  unfoldable pub pushOf : ℕ → Control → Shift
+  unfoldable pub pushOf : ℕ → Control → Transfer
   pushOf ar c = unlessFull c (onwards (push ar c))
 
   -- POP AR
-  unfoldable pub popOf : Control → Shift
+  unfoldable pub popOf : Control → Transfer
   popOf c = unlessEmpty c (onwards (pop c))
 
   -- MOVT needs one free level, given back at once
-  unfoldable pub tableOf : Control → Shift
+  unfoldable pub tableOf : Control → Transfer
   tableOf c = unlessFull c (onwards c)
 
   -- HALT and STOP move PC on and set standing
-  unfoldable pub standOf : Control → Shift
-  standOf c = goes (marked (c .skip) true (onwards c))
+  unfoldable pub standbyOf : Control → Transfer
+  standbyOf c = goes (marked (c .skip) true (onwards c))
 
   -- a skip sets the mark
-  unfoldable pub onwardOf : Bool → Control → Shift
+  unfoldable pub onwardOf : Bool → Control → Transfer
   onwardOf skip c = goes (marked skip (c .standby) (onwards c))
 
-  -- of the data only whether a skip's condition holds, and AR. Refused words never come here.
-  unfoldable pub controlOf : Instruction → Bool → ℕ → Control → Shift
+  -- Of the data only whether a skip's condition holds, and AR. Neither mark is set when an instruction runs. What
+  -- refusal 4 names never comes here, since the word alone decides that; it is refused here too.
+  unfoldable pub controlOf : Instruction → Bool → ℕ → Control → Transfer
   controlOf (AluRegister op r m) skips ar c = onwardOf false c
   controlOf (AluImmediate op m n4) skips ar c = onwardOf false c
   controlOf (Skip op m n4) skips ar c = onwardOf skips c
@@ -106,14 +111,14 @@ module _ (chip : Chip) where
   controlOf (MovToIndirect r m) skips ar c = onwardOf false c
   controlOf (MovFromIndirect m r) skips ar c = onwardOf false c
   controlOf (MovImmediate m n4) skips ar c = onwardOf false c
-  controlOf (Peek rf) skips ar c = stops 4 c
-  controlOf (Poke rf) skips ar c = stops 4 c
-  controlOf (Get p) skips ar c = stops 4 c
-  controlOf (Put p) skips ar c = stops 4 c
+  controlOf (Peek rf) skips ar c = denies 4 c
+  controlOf (Poke rf) skips ar c = denies 4 c
+  controlOf (Get p) skips ar c = denies 4 c
+  controlOf (Put p) skips ar c = denies 4 c
   controlOf (Br addr) skips ar c = branchOf addr c
   controlOf (Call addr) skips ar c = inReach addr c (callOf addr c)
-  controlOf (Stop s) skips ar c = standOf c
-  controlOf (Halt h) skips ar c = standOf c
+  controlOf (Stop s) skips ar c = standbyOf c
+  controlOf (Halt h) skips ar c = standbyOf c
   controlOf (Fixed IncAr) skips ar c = onwardOf false c
   controlOf (Fixed IncIx) skips ar c = onwardOf false c
   controlOf (Fixed Movt) skips ar c = tableOf c
@@ -123,7 +128,7 @@ module _ (chip : Chip) where
   controlOf (Fixed CallAr) skips ar c = callOf ar c
   controlOf (Fixed Ret) skips ar c = returnOf false c
   controlOf (Fixed Retsk) skips ar c = returnOf true c
-  controlOf (Fixed Reti) skips ar c = stops 4 c
-  controlOf (Fixed Ei) skips ar c = stops 4 c
-  controlOf (Fixed Di) skips ar c = stops 4 c
+  controlOf (Fixed Reti) skips ar c = denies 4 c
+  controlOf (Fixed Ei) skips ar c = denies 4 c
+  controlOf (Fixed Di) skips ar c = denies 4 c
   controlOf (Fixed Nop) skips ar c = onwardOf false c

@@ -1,5 +1,5 @@
--- What an instruction reads and writes, and whether it skips: document 01, "Results". The writes are a list, in order,
--- and a cell is in it even where its value stays.
+-- What an instruction reads and writes, and whether it skips: document 01, "Results". The writes are a list, in order;
+-- which cells are in it, even where a value stays, is document 02's E7.
 -- Assumes nothing.
 use mathlib.Core.Bool.{Bool, true, false, cond}
 use mathlib.Core.List.{List, [], _∷_}

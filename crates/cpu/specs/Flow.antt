@@ -18,8 +18,8 @@ pub data Flow : Type 0 where
   -- a table reference, then the next word
   table : Flow
   -- to the next word, and standing
-  stands : Flow
-  -- no instruction of the base, or one whose way only the data tell
+  waits : Flow
+  -- barred by clearance rule 3: no instruction of the base, BR @AR, CALL @AR, PUSH AR or POP AR
   barred : Flow
 
 abbrev pub fixedFlow : FixedOp → Flow
@@ -53,6 +53,6 @@ flowOf (Get p) = barred
 flowOf (Put p) = barred
 flowOf (Br addr) = branch addr
 flowOf (Call addr) = call addr
-flowOf (Stop s) = stands
-flowOf (Halt h) = stands
+flowOf (Stop s) = waits
+flowOf (Halt h) = waits
 flowOf (Fixed op) = fixedFlow op

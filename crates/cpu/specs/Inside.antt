@@ -8,11 +8,11 @@ use lib.ListN.{getD, length}
 use Rattle.isa.specs.declared.Instruction.{Instruction}
 use Rattle.memory.specs.Chip.{Chip}
 use Rattle.memory.specs.Write.{writesApplied}
-use Rattle.cpu.specs.Answers.{Step, outcomeOf, numberOf}
-use Rattle.cpu.specs.Control.{Shift, goes, stops}
+use Rattle.cpu.specs.Answers.{Step, replyOf, numberOf}
+use Rattle.cpu.specs.Control.{Transfer, goes, denies}
 use Rattle.cpu.specs.Data.{Data, writesOf}
 use Rattle.cpu.specs.Parts.{withStack, wholeOf}
-use Rattle.cpu.specs.Step.{completed, stopped}
+use Rattle.cpu.specs.Step.{completed, denied}
 use Rattle.cpu.specs.declared.Advanced.{Advanced}
 use Rattle.cpu.specs.declared.Fetched.{Fetched}
 use Rattle.cpu.specs.declared.Fetched.the-variants.{Word, Past}
@@ -21,17 +21,17 @@ use Rattle.cpu.specs.declared.Moved.the-variants.{To, Refused}
 use Rattle.cpu.specs.declared.Regs.{Regs}
 
 -- the stack after, the registers before, and the answer
-abbrev pub shiftOf : List ℕ → Regs → Moved → Shift
-shiftOf stack before (To r) = goes (withStack stack r)
-shiftOf stack before (Refused q) = stops (numberOf q) (withStack stack before)
+abbrev pub transferOf : List ℕ → Regs → Moved → Transfer
+transferOf stack before (To r) = goes (withStack stack r)
+transferOf stack before (Refused q) = denies (numberOf q) (withStack stack before)
 
 -- the cells and the stack after, the registers before, and the answer
 abbrev pub executedOf : List ℕ → List ℕ → Regs → Moved → Step
 executedOf cells stack before (To r) = completed (wholeOf cells stack r)
-executedOf cells stack before (Refused q) = stopped (numberOf q) (wholeOf cells stack before)
+executedOf cells stack before (Refused q) = denied (numberOf q) (wholeOf cells stack before)
 
 abbrev pub advancedOf : List ℕ → List ℕ → Advanced → Step
-advancedOf cells stack a = record { outcome = outcomeOf (a .answer); machine = wholeOf cells stack (a .regs) }
+advancedOf cells stack a = record { reply = replyOf (a .answer); machine = wholeOf cells stack (a .regs) }
 
 abbrev pub dataAt : List ℕ → List ℕ → List ℕ → Data
 dataAt cells pins directions = record { cells = cells; pins = pins; directions = directions }

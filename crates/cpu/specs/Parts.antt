@@ -13,13 +13,20 @@ use Rattle.cpu.specs.declared.Regs.{Regs}
 abbrev pub cellsOf : Machine → List ℕ
 cellsOf m = m .memory .cells
 
--- the record with other cells and another control
-abbrev pub machineOf : List ℕ → Control → Machine
-machineOf cells c = record { memory = record { cells = cells }; control = c }
+-- the record with another control, and with other cells
+abbrev pub withControl : Control → Machine → Machine
+withControl c m = record { memory = m .memory; control = c }
+
+abbrev pub withCells : List ℕ → Machine → Machine
+withCells cells m = record { memory = record { cells = cells }; control = m .control }
 
 -- the control whose stack stands apart from it, as the code keeps it while it steps
 abbrev pub withStack : List ℕ → Regs → Control
 withStack stack r = record { pc = r .pc; stack = stack; levels = r .levels; skip = r .skip; standby = r .standby }
+
+-- the record put together
+abbrev pub machineOf : List ℕ → Control → Machine
+machineOf cells c = record { memory = record { cells = cells }; control = c }
 
 abbrev pub wholeOf : List ℕ → List ℕ → Regs → Machine
 wholeOf cells stack r = machineOf cells (withStack stack r)

@@ -13,14 +13,18 @@ use Rattle.cpu.specs.declared.Input.{Input}
 use Rattle.cpu.specs.declared.Machine.{Machine}
 use Rattle.cpu.specs.Parts.{cellsOf}
 
+-- the record has five places for stacked addresses, whatever the chip
+abbrev pub places : ℕ
+places = 5
+
 -- no stacked address too large, and a closed level is 0
 abbrev pub levelInRange : Chip → Control → ℕ → Bool
 levelInRange chip c k = cond (ltb k (c .levels)) (ltb (getD (c .stack) k 0) (2 ^ chip .pcBits)) (eqb (getD (c .stack) k 0) 0)
 
--- PC not too large, not too many open levels, and each level
+-- PC not too large, not too many open levels, and each place
 unfoldable pub controlInRange : Chip → Control → Bool
 controlInRange chip c =
-    ltb (c .pc) (2 ^ chip .pcBits) && (leb (c .levels) (chip .levels) && every (levelInRange chip c) (chip .levels))
+    ltb (c .pc) (2 ^ chip .pcBits) && (leb (c .levels) (chip .levels) && every (levelInRange chip c) places)
 
 unfoldable pub machineInRange : Chip → Machine → Bool
 machineInRange chip m = cellsInRange chip (cellsOf m) && controlInRange chip (m .control)

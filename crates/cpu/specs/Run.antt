@@ -4,7 +4,8 @@ use mathlib.Core.Bool.{Bool, true, false, _&&_, cond}
 use mathlib.Core.List.{List}
 use Prim.Native.Nat.{ℕ, zero, suc, _+_}
 use Rattle.memory.specs.Chip.{Chip}
-use Rattle.cpu.specs.Answers.{Outcome, done, standing, refused, stepsOf, Step, Run}
+use Rattle.cpu.specs.Answers.{Reply, done, inStandby, refused, costOf, Step, Run}
+use Rattle.cpu.specs.Control.{isStandby}
 use Rattle.cpu.specs.Ranges.{allInRange, budgetInRange}
 use Rattle.cpu.specs.Step.{stepOf}
 use Rattle.cpu.specs.declared.Input.{Input}
@@ -14,9 +15,9 @@ abbrev pub ended : ℕ → ℕ → Machine → Run
 ended steps refusal m = record { steps = steps; refusal = refusal; machine = m }
 
 -- a run ends at a refusal, and after a step that leaves the machine standing; else it goes on
-abbrev pub afterStep : ℕ → Machine → Outcome → Run → Run
-afterStep steps m done rest = cond (m .control .standby) (ended steps 0 m) rest
-afterStep steps m standing rest = ended steps 0 m
+abbrev pub afterStep : ℕ → Machine → Reply → Run → Run
+afterStep steps m done rest = cond (isStandby (m .control)) (ended steps 0 m) rest
+afterStep steps m inStandby rest = ended steps 0 m
 afterStep steps m (refused n) rest = ended steps n m
 
 module _ (chip : Chip) (rom : List ℕ) (input : Input) where
@@ -25,9 +26,9 @@ module _ (chip : Chip) (rom : List ℕ) (input : Input) where
   runFrom zero steps m = ended steps 0 m
   runFrom (suc left) steps m =
       let s = stepOf chip rom input m in
-      let count = steps + stepsOf (s .outcome) in
+      let count = steps + costOf (s .reply) .steps in
       let rest = runFrom left count (s .machine) in
-      afterStep count (s .machine) (s .outcome) rest
+      afterStep count (s .machine) (s .reply) rest
 
   -- refusal 1 is tried before anything, also at budget 0
   unfoldable pub runOf : ℕ → Machine → Run

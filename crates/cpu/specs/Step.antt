@@ -14,10 +14,10 @@ use Rattle.isa.specs.declared.Instruction.the-variants.{AluRegister, AluImmedia
 use Rattle.memory.specs.Chip.{Chip}
 use Rattle.memory.specs.Registers.{arOf}
 use Rattle.memory.specs.Write.{writesApplied}
-use Rattle.cpu.specs.Answers.{Outcome, done, standing, refused, Step}
-use Rattle.cpu.specs.Control.{Shift, controlOf, marked, onwards, top}
+use Rattle.cpu.specs.Answers.{Reply, done, inStandby, refused, Step}
+use Rattle.cpu.specs.Control.{Transfer, controlOf, isStandby, marked, onwards, top}
 use Rattle.cpu.specs.Data.{Data, writesOf, skipsOf}
-use Rattle.cpu.specs.Parts.{cellsOf, machineOf}
+use Rattle.cpu.specs.Parts.{cellsOf, withCells, withControl}
 use Rattle.cpu.specs.Ranges.{allInRange}
 use Rattle.cpu.specs.declared.Control.{Control}
 use Rattle.cpu.specs.declared.Input.{Input}
@@ -64,11 +64,11 @@ runnable (undecoded n) = undecoded n
 abbrev pub runsOf : ℕ → Decoding
 runsOf word = runnable (decodeOf word)
 
-abbrev pub stopped : ℕ → Machine → Step
-stopped n m = record { outcome = refused n; machine = m }
+abbrev pub denied : ℕ → Machine → Step
+denied n m = record { reply = refused n; machine = m }
 
 abbrev pub completed : Machine → Step
-completed m = record { outcome = done; machine = m }
+completed m = record { reply = done; machine = m }
 
 abbrev pub dataOf : Machine → Input → Data
 dataOf m i = record { cells = cellsOf m; pins = i .pins; directions = i .directions }
@@ -108,13 +108,13 @@ pastTable rom ar (Fixed Nop) = false
 
 -- with release 1 a standing machine loses that mark
 abbrev pub woken : Machine → Machine
-woken m = machineOf (cellsOf m) (marked (m .control .skip) false (m .control))
+woken m = withControl (marked (m .control .skip) false (m .control)) m
 
 -- a refusal leaves the record as it came, the mark included
-abbrev pub leaving : Machine → Machine → Outcome → Step
+abbrev pub leaving : Machine → Machine → Reply → Step
 leaving m after done = completed after
-leaving m after standing = record { outcome = standing; machine = after }
-leaving m after (refused n) = stopped n m
+leaving m after inStandby = record { reply = inStandby; machine = after }
+leaving m after (refused n) = denied n m
 
 module _ (chip : Chip) (rom : List ℕ) (input : Input) where
   -- the cells after an instruction's writes
@@ -124,11 +124,11 @@ module _ (chip : Chip) (rom : List ℕ) (input : Input) where
       (writesOf chip (dataOf m input) i (top (m .control)) (getD rom (arOf (cellsOf m)) 0))
 
   -- what is left once control has gone on or been refused: refusal 8, then the writes
-  abbrev pub settleOf : Instruction → Machine → Shift → Step
+  abbrev pub settleOf : Instruction → Machine → Transfer → Step
   settleOf i m s =
       cond (eqb (s .refusal) 0)
-      (cond (pastTable rom (arOf (cellsOf m)) i) (stopped 8 m) (completed (machineOf (writtenOf i m) (s .control))))
-      (stopped (s .refusal) m)
+      (cond (pastTable rom (arOf (cellsOf m)) i) (denied 8 m) (completed (withCells (writtenOf i m) (withControl (s .control) m))))
+      (denied (s .refusal) m)
 
   -- refusals 5, 6 and 7, then 8, then the writes
   unfoldable pub executeOf : Instruction → Machine → Step
@@ -137,26 +137,27 @@ module _ (chip : Chip) (rom : List ℕ) (input : Input) where
   -- refusals 3 and 4
   abbrev pub decodedOf : Machine → Decoding → Step
   decodedOf m (is i) = executeOf i m
-  decodedOf m (undecoded n) = stopped n m
+  decodedOf m (undecoded n) = denied n m
 
   -- "the next step takes the word at PC as NOP, undecoded, and clears" the mark
   abbrev pub passOver : Machine → Step
-  passOver m = completed (machineOf (cellsOf m) (marked false (m .control .standby) (onwards chip (m .control))))
+  passOver m = completed (withControl (marked false (isStandby (m .control)) (onwards chip (m .control))) m)
 
   -- refusal 2: PC at or past the number of ROM words
   unfoldable pub fetchOf : Machine → Step
   fetchOf m =
       cond (leb (length rom) (m .control .pc))
-      (stopped 2 m)
+      (denied 2 m)
       (cond (m .control .skip) (passOver m) (decodedOf m (runsOf (getD rom (m .control .pc) 0))))
 
-  -- "a standing step with release 0 changes nothing and answers standing; release is ignored otherwise"
+  -- a standing step with release 0 changes nothing and answers "standing"; with release 1 it clears that mark and steps
+  -- as usual; release is ignored otherwise
   unfoldable pub advanceOf : Machine → Step
   advanceOf m =
-      cond (m .control .standby && eqb (input .release) 0)
-      (record { outcome = standing; machine = m })
-      (let s = fetchOf (woken m) in leaving m (s .machine) (s .outcome))
+      cond (isStandby (m .control) && eqb (input .release) 0)
+      (record { reply = inStandby; machine = m })
+      (let s = fetchOf (woken m) in leaving m (s .machine) (s .reply))
 
   -- refusal 1 first
   unfoldable pub stepOf : Machine → Step
-  stepOf m = cond (allInRange chip rom m input) (advanceOf m) (stopped 1 m)
+  stepOf m = cond (allInRange chip rom m input) (advanceOf m) (denied 1 m)

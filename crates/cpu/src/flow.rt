@@ -3,8 +3,8 @@ ghost use mathlib.Core.Path.{_≡_};
 ghost use mathlib.Core.List.{List};
 ghost use Prim.Native.Nat.{ℕ, _≤_};
 ghost use Rattle.memory.specs.Chip.{upd17132};
-ghost use Rattle.cpu.specs.Control.{goes, jump, branchOf, callOf, returnOf, pushOf, popOf, tableOf, standOf, onwardOf, inReach};
-ghost use Rattle.cpu.specs.Inside.{shiftOf};
+ghost use Rattle.cpu.specs.Control.{goes, jump, branchOf, callOf, returnOf, pushOf, popOf, tableOf, standbyOf, onwardOf, inReach};
+ghost use Rattle.cpu.specs.Inside.{transferOf};
 ghost use Rattle.cpu.specs.Parts.{withStack};
 use crate::Moved;
 use crate::Refusal;
@@ -24,7 +24,7 @@ pub fn onward(regs: Regs, skip: bool) -> Regs
 
 // HALT and STOP.
 pub fn stand(regs: Regs) -> Regs
-    ensures { λ r. ⌜ ((stack : List ℕ) → goes (withStack stack r) ≡ standOf upd17132 (withStack stack regs)) ⌝ }
+    ensures { λ r. ⌜ ((stack : List ℕ) → goes (withStack stack r) ≡ standbyOf upd17132 (withStack stack regs)) ⌝ }
 {
     Regs {
         pc: memory::next(regs.pc),
@@ -48,7 +48,7 @@ pub fn jump(regs: Regs, to: u16) -> Regs
 
 // BR.
 pub fn branch(regs: Regs, to: u16) -> Moved
-    ensures { λ r. ⌜ ((stack : List ℕ) → shiftOf stack regs r ≡ branchOf upd17132 to (withStack stack regs)) ⌝ }
+    ensures { λ r. ⌜ ((stack : List ℕ) → transferOf stack regs r ≡ branchOf upd17132 to (withStack stack regs)) ⌝ }
 {
     if 1024 <= to {
         return Moved::Refused(Refusal::BadTarget);
@@ -63,7 +63,7 @@ pub fn branch(regs: Regs, to: u16) -> Moved
 
 // CALL @AR, and CALL once its target is known to be in reach.
 pub fn call(stack: &mut [u16; 5], regs: Regs, to: u16) -> Moved
-    ensures { λ r. ⌜ shiftOf (now (stack .exit)) regs r ≡ callOf upd17132 to (withStack (now (stack .entry)) regs) ⌝ }
+    ensures { λ r. ⌜ transferOf (now (stack .exit)) regs r ≡ callOf upd17132 to (withStack (now (stack .entry)) regs) ⌝ }
 {
     let levels = regs.levels;
     if 5 <= levels {
@@ -80,7 +80,7 @@ pub fn call(stack: &mut [u16; 5], regs: Regs, to: u16) -> Moved
 
 // CALL: the target is tried before the stack.
 pub fn call_in_reach(stack: &mut [u16; 5], regs: Regs, to: u16) -> Moved
-    ensures { λ r. ⌜ shiftOf (now (stack .exit)) regs r ≡ inReach upd17132 to (withStack (now (stack .entry)) regs) (callOf upd17132 to (withStack (now (stack .entry)) regs)) ⌝ }
+    ensures { λ r. ⌜ transferOf (now (stack .exit)) regs r ≡ inReach upd17132 to (withStack (now (stack .entry)) regs) (callOf upd17132 to (withStack (now (stack .entry)) regs)) ⌝ }
 {
     if 1024 <= to {
         return Moved::Refused(Refusal::BadTarget);
@@ -91,7 +91,7 @@ pub fn call_in_reach(stack: &mut [u16; 5], regs: Regs, to: u16) -> Moved
 // RET, and RETSK, which sets the skip mark.
 pub fn ret(stack: &mut [u16; 5], regs: Regs, skip: bool) -> Moved
     requires { ⌜ regs .levels ≤ 5 ⌝ }
-    ensures { λ r. ⌜ shiftOf (now (stack .exit)) regs r ≡ returnOf upd17132 skip (withStack (now (stack .entry)) regs) ⌝ }
+    ensures { λ r. ⌜ transferOf (now (stack .exit)) regs r ≡ returnOf upd17132 skip (withStack (now (stack .entry)) regs) ⌝ }
 {
     let levels = regs.levels;
     if levels == 0 {
@@ -110,7 +110,7 @@ pub fn ret(stack: &mut [u16; 5], regs: Regs, skip: bool) -> Moved
 
 // PUSH AR.
 pub fn push(stack: &mut [u16; 5], regs: Regs, ar: u16) -> Moved
-    ensures { λ r. ⌜ shiftOf (now (stack .exit)) regs r ≡ pushOf upd17132 ar (withStack (now (stack .entry)) regs) ⌝ }
+    ensures { λ r. ⌜ transferOf (now (stack .exit)) regs r ≡ pushOf upd17132 ar (withStack (now (stack .entry)) regs) ⌝ }
 {
     let levels = regs.levels;
     if 5 <= levels {
@@ -128,7 +128,7 @@ pub fn push(stack: &mut [u16; 5], regs: Regs, ar: u16) -> Moved
 // POP AR, whose value the caller has read.
 pub fn pop(stack: &mut [u16; 5], regs: Regs) -> Moved
     requires { ⌜ regs .levels ≤ 5 ⌝ }
-    ensures { λ r. ⌜ shiftOf (now (stack .exit)) regs r ≡ popOf upd17132 (withStack (now (stack .entry)) regs) ⌝ }
+    ensures { λ r. ⌜ transferOf (now (stack .exit)) regs r ≡ popOf upd17132 (withStack (now (stack .entry)) regs) ⌝ }
 {
     let levels = regs.levels;
     if levels == 0 {
@@ -145,7 +145,7 @@ pub fn pop(stack: &mut [u16; 5], regs: Regs) -> Moved
 
 // MOVT: one free level is needed, and given back at once.
 pub fn table(regs: Regs) -> Moved
-    ensures { λ r. ⌜ ((stack : List ℕ) → shiftOf stack regs r ≡ tableOf upd17132 (withStack stack regs)) ⌝ }
+    ensures { λ r. ⌜ ((stack : List ℕ) → transferOf stack regs r ≡ tableOf upd17132 (withStack stack regs)) ⌝ }
 {
     if 5 <= regs.levels {
         return Moved::Refused(Refusal::StackFull);

@@ -2,7 +2,9 @@
 -- its line 7 from the list (18.3), by column and row.
 -- Assumes nothing.
 use Prim.Native.Nat.{ℕ, _+_, _*_, _/_, _%_}
+use mathlib.Core.Bool.{cond}
 use mathlib.Core.List.{List, [], _∷_}
+use lib.Dec.{eqb}
 use lib.ListN.{getD}
 use Rattle.isa.specs.Answers.{Decoding, is, refused}
 use Rattle.isa.specs.declared.AluOp.{AluOp}
@@ -21,26 +23,26 @@ none = refused 3
 -- The group: opcode 00111, a row of three bits, a column of four, a low nibble.
 
 -- what a column and a row make of the low nibble
-abbrev pub Cell : Type 0
-Cell = ℕ → Decoding
+abbrev pub Slot : Type 0
+Slot = ℕ → Decoding
 
-abbrev pub blank : Cell
+abbrev pub blank : Slot
 blank x = none
 
 -- no operand: the low nibble is 0
-abbrev pub plain : FixedOp → Cell
-plain op x = getD (is (Fixed op) ∷ []) x none
+abbrev pub plain : FixedOp → Slot
+plain op x = cond (eqb x 0) (is (Fixed op)) none
 
 -- the low nibble is the operand
-abbrev pub nibble : (ℕ → Instruction) → Cell
+abbrev pub nibble : (ℕ → Instruction) → Slot
 nibble f x = is (f x)
 
 abbrev pub Column : Type 0
-Column = ℕ → Cell
+Column = ℕ → Slot
 
--- the cells of a column, from row 0 on
-abbrev pub rows : List Cell → Column
-rows cells row = getD cells row blank
+-- the slots of a column, from row 0 on
+abbrev pub rows : List Slot → Column
+rows slots row = getD slots row blank
 
 -- the operand's upper three bits are the row and its lower four the low nibble
 abbrev pub whole : (ℕ → Instruction) → Column

@@ -68,11 +68,11 @@ RPH = 0x7D
 abbrev pub RPL : ℕ
 RPL = 0x7E
 
--- the program status word
+-- the four bits of the program status word that have a cell of their own; the fifth, BCD, is a bit of RPL
 abbrev pub PSW : ℕ
 PSW = 0x7F
 
--- the flags of the program status word
+-- the flags in PSW
 abbrev pub CMP : ℕ
 CMP = 0b1000
 

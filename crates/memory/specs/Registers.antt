@@ -8,9 +8,11 @@ use Rattle.memory.specs.Cells.{cellAt, nibbleAt, number}
 use Rattle.memory.specs.Names.{AR3, AR2, AR1, AR0, DBF3, DBF2, DBF1, DBF0, IXH, IXM, IXL}
 use Rattle.memory.specs.Write.{Write, _↤_}
 
+-- the address register
 unfoldable pub arOf : List ℕ → ℕ
 arOf cells = number (nibbleAt cells AR3) (nibbleAt cells AR2) (nibbleAt cells AR1) (nibbleAt cells AR0)
 
+-- the data buffer
 unfoldable pub bufferOf : List ℕ → ℕ
 bufferOf cells = number (nibbleAt cells DBF3) (nibbleAt cells DBF2) (nibbleAt cells DBF1) (nibbleAt cells DBF0)
 
@@ -28,7 +30,7 @@ bufferWrites v = numberWrites DBF3 DBF2 DBF1 DBF0 v
 abbrev pub incrementAr : List ℕ → List Write
 incrementAr cells = arWrites (wrapNext 10 (arOf cells))
 
--- INC IX goes from 7FH to 00H and leaves MPE
+-- INC IX goes from 7FH to 00H and leaves MPE; 7AH is written all the same (document 02, E7)
 abbrev pub incrementIx : List ℕ → List Write
 incrementIx cells =
     let x = wrapNext 7 (ixOf cells) in

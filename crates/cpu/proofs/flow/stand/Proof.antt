@@ -1,4 +1,4 @@
-use Rattle.cpu.specs.Control.{standOf}
+use Rattle.cpu.specs.Control.{standbyOf}
 use borrow.Author.Needs.{needs}
 use Rattle.cpu.proofs.flow.stand.Statement.{statement}
 use Rattle.cpu.proofs.flow.stand.Tie as tie
@@ -12,7 +12,7 @@ next-requires c κs = search needs
 
 -- src/flow.rt:26:1
 returns : tie.Need-returns
-unfolding standOf
+unfolding standbyOf
 returns c = λ stack. rw (c .next .ensures)
 
 pub stand-spec : {M : Type 1} → statement M

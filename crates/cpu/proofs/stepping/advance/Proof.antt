@@ -4,11 +4,11 @@ use mathlib.Core.List.{[]}
 use Rattle.isa.specs.Answers.{decodingOf}
 use Rattle.isa.specs.Decode.{decodeOf}
 use Rattle.memory.specs.Chip.{upd17132}
-use Rattle.cpu.specs.Control.{Shift, onwardOf, marked, onwards}
+use Rattle.cpu.specs.Control.{Transfer, onwardOf, marked, onwards}
 use Rattle.cpu.specs.declared.Control.{Control}
 use Rattle.cpu.specs.declared.Machine.{Machine}
 use Rattle.cpu.specs.Parts.{machineOf, wholeOf}
-use Rattle.cpu.specs.Step.{completed, executeOf, stopped}
+use Rattle.cpu.specs.Step.{completed, executeOf, denied}
 use Rattle.cpu.specs.Answers.{numberOf, Step}
 use Rattle.cpu.proofs.Phases.{refused-kept}
 use mathlib.Core.Path.{sym, _∙_, ap, refl}
@@ -73,7 +73,7 @@ returns-3 c =
     let s = c .before .before .before .before .before .before .before .before .before .before .args in
     let w = word-at (c .before .before .before .before .before .before .before .before .before .before .args .rom .now) (c .before .before .before .before .before .before .before .before .before .before .args .regs .pc) _ (sym (c .before .before .before .before .before .before .fetch .ensures) ∙ c .before .before .before .before .word .given .1) in
     ap (λ (k : Control). completed (machineOf (s .cells .now) k))
-    (ap (λ (x : Shift). x .control) (c .onward .ensures (s .stack .now))
+    (ap (λ (x : Transfer). x .control) (c .onward .ensures (s .stack .now))
     ∙ ap (λ (k : Control). marked false (k .standby) (onwards upd17132 k)) (c .before .before .woken .ensures (s .stack .now)))
     ∙ passed-over _ _ _ _ (sym (c .before .before .before .before .before .before .before .before .stays .ensures) ∙ c .before .before .before .before .before .before .before .if1 .left) (w .0) (c .before .if2 .taken)
 
