@@ -21,7 +21,7 @@ at-most : (cells : List ℕ) (at : ℕ) → at < 128 → cellsInRange upd17132 c
 unfolding cellsInRange keptOf
 at-most cells at h e =
     let kept : bitAnd (getD cells at 0) (getD masks17132 at 0) ≡ getD cells at 0
-            = eqb→eq _ _ (every-at (cellInRange upd17132 cells) 128 (passed e) at h) in
+    = eqb→eq _ _ (every-at (cellInRange upd17132 cells) 128 (passed e) at h) in
     omega (arith, and-le-r (getD cells at 0) (getD masks17132 at 0))
 
 pub ar-fits : ArFits upd17132

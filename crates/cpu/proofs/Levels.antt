@@ -88,8 +88,8 @@ module _ (chip : Chip) (small : chip .levels ≤ places) where
     pc = f .pc;
     levels = omega arith;
     each = λ k b.
-      pushed-level (c .stack) (c .levels) a k (ltb k (c .levels)) (eqb k (c .levels)) (ltb (c .levels) (length (c .stack))) refl refl refl h
-      (f .each k b);
+        pushed-level (c .stack) (c .levels) a k (ltb k (c .levels)) (eqb k (c .levels)) (ltb (c .levels) (length (c .stack))) refl refl refl h
+        (f .each k b);
   }
 
   popped-level : (stack : List ℕ) (n k : ℕ) (below here inside : Bool) → 0 < n → ltb k (n - 1) ≡ below → eqb k (n - 1) ≡ here
@@ -116,8 +116,8 @@ module _ (chip : Chip) (small : chip .levels ≤ places) where
     pc = f .pc;
     levels = omega (arith, f .levels);
     each = λ k b.
-      popped-level (c .stack) (c .levels) k (ltb k (c .levels - 1)) (eqb k (c .levels - 1)) (ltb (c .levels - 1) (length (c .stack))) p
-      refl refl refl (f .each k b);
+        popped-level (c .stack) (c .levels) k (ltb k (c .levels - 1)) (eqb k (c .levels - 1)) (ltb (c .levels - 1) (length (c .stack))) p
+        refl refl refl (f .each k b);
   }
 
   pub top-below : (c : Control) → 0 < c .levels → Fine c → top c < bound

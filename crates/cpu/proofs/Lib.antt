@@ -5,3 +5,5 @@ pub mod Inside
 pub mod Levels
 pub mod Ranged
 pub mod ArFits
+pub mod Turns
+pub mod NotDone

@@ -110,7 +110,6 @@ module _ (chip : Chip) (small : chip .levels ≤ places) where
     shifted (Fixed Di) skips ar h = f
     shifted (Fixed Nop) skips ar h = went false
 
-
   abbrev R : Machine → Type 0
   R m = machineInRange chip m ≡ true
 

@@ -46,6 +46,12 @@ costOf done = record { steps = 1; cycles = 1 }
 costOf inStandby = record { steps = 0; cycles = 0 }
 costOf (refused n) = record { steps = 0; cycles = 0 }
 
+-- the refusal, 0 for none
+abbrev pub refusalOf : Reply → ℕ
+refusalOf done = 0
+refusalOf inStandby = 0
+refusalOf (refused n) = n
+
 -- a step's answer and the record after it
 pub record Step : Type 0 where
   pub reply : Reply

@@ -3,8 +3,10 @@ mod data;
 mod execute;
 mod flow;
 mod ranges;
+mod running;
 mod stepping;
 
+pub use running::run;
 pub use stepping::step;
 ghost use mathlib.Core.Path.{_≡_};
 ghost use Rattle.cpu.specs.Parts.{resetMachine};

@@ -3,48 +3,34 @@ use Rattle.cpu.specs.Data.{skipWrites}
 use borrow.Author.Needs.{needs}
 use Rattle.cpu.proofs.data.clear_cmp.Statement.{statement}
 use Rattle.cpu.proofs.data.clear_cmp.Tie as tie
-use Rattle.cpu.proofs.data.clear_cmp.Reads as reads
-use Rattle.cpu.proofs.data.clear_cmp.Lts as lts
-use Rattle.memory.proofs.with_flag.Reads as with-flag-reads
-use Rattle.memory.proofs.write.Reads as write-reads
 
--- src/data.rt:109:47
 enum-told : tie.Need-enum-told
 enum-told c = search needs
 
--- src/data.rt:109:47
 cast-with-flag : tie.Need-cast-with-flag
 cast-with-flag c = search needs
 
--- src/data.rt:109:41
 element-copy-out-with-flag : tie.Need-element-copy-out-with-flag
 element-copy-out-with-flag c = search needs
 
--- src/data.rt:109:17
 with-flag-requires : tie.Need-with-flag-requires
 with-flag-requires c κs = search needs
 
--- src/data.rt:110:22
 write-requires : tie.Need-write-requires
 write-requires c κs = search needs
 
--- src/data.rt:113:47
 enum-told-2 : tie.Need-enum-told-2
 enum-told-2 c = search needs
 
--- src/data.rt:113:47
 cast-with-flag-2 : tie.Need-cast-with-flag-2
 cast-with-flag-2 c = search needs
 
--- src/data.rt:113:41
 element-copy-out-with-flag-2 : tie.Need-element-copy-out-with-flag-2
 element-copy-out-with-flag-2 c = search needs
 
--- src/data.rt:113:17
 with-flag-requires-2 : tie.Need-with-flag-requires-2
 with-flag-requires-2 c κs = search needs
 
--- src/data.rt:114:22
 write-requires-2 : tie.Need-write-requires-2
 write-requires-2 c κs = search needs
 
@@ -60,32 +46,26 @@ enum-told-5 c = search needs
 enum-told-6 : tie.Need-enum-told-6
 enum-told-6 c = search needs
 
--- src/data.rt:104:1
 returns : tie.Need-returns
 unfolding skipWrites writesApplied
 returns c = rw (c .before .before .before .before .enum-told .given .1, c .write .ensures, c .before .before .with-flag .ensures)
 
--- src/data.rt:104:1
 returns-2 : tie.Need-returns-2
 unfolding skipWrites writesApplied
 returns-2 c = rw (c .before .before .before .before .enum-told2 .given .1, c .write2 .ensures, c .before .before .with-flag2 .ensures)
 
--- src/data.rt:104:1
 returns-3 : tie.Need-returns-3
 unfolding skipWrites writesApplied
 returns-3 c = rw (c .enum-told3 .given .1)
 
--- src/data.rt:104:1
 returns-4 : tie.Need-returns-4
 unfolding skipWrites writesApplied
 returns-4 c = rw (c .enum-told4 .given .1)
 
--- src/data.rt:104:1
 returns-5 : tie.Need-returns-5
 unfolding skipWrites writesApplied
 returns-5 c = rw (c .enum-told5 .given .1)
 
--- src/data.rt:104:1
 returns-6 : tie.Need-returns-6
 unfolding skipWrites writesApplied
 returns-6 c = rw (c .enum-told6 .given .1)

@@ -4,61 +4,41 @@ use Rattle.cpu.specs.Data.{writesOf, rotateWrites}
 use borrow.Author.Needs.{needs}
 use Rattle.cpu.proofs.data.rorc.Statement.{statement}
 use Rattle.cpu.proofs.data.rorc.Tie as tie
-use Rattle.cpu.proofs.data.rorc.Reads as reads
-use Rattle.cpu.proofs.data.rorc.Lts as lts
-use Rattle.alu.proofs.rotate.Reads as rotate-reads
-use Rattle.memory.proofs.register.Reads as register-reads
-use Rattle.memory.proofs.is_set.Reads as is-set-reads
-use Rattle.memory.proofs.read.Reads as read-reads
-use Rattle.memory.proofs.with_flag.Reads as with-flag-reads
-use Rattle.memory.proofs.write.Reads as write-reads
 
--- src/data.rt:145:9
 register-requires : tie.Need-register-requires
 register-requires c κs = search needs
 
--- src/data.rt:146:9
 read-requires : tie.Need-read-requires
 read-requires c κs = search needs
 
--- src/data.rt:147:9
 is-set-requires : tie.Need-is-set-requires
 is-set-requires c κs = search needs
 
--- src/data.rt:148:9
 rotate-requires : tie.Need-rotate-requires
 rotate-requires c κs = search needs
 
--- src/data.rt:150:18
 write-requires : tie.Need-write-requires
 write-requires c κs = search needs
 
--- src/data.rt:151:9
 returns : tie.Need-returns
 unfolding writesOf rotateWrites writesApplied
 returns c = rw (← c .before .before .before .before .before .before .before .before .register .ensures, ← c .before .before .before .before .before .before .read .ensures, ← c .before .before .before .before .is-set .ensures, ← c .before .before .before .rotate .ensures, eq-eqb _ _ (c .before .before .if1 .taken), c .write .ensures)
 
--- src/data.rt:153:39
 cast-with-flag : tie.Need-cast-with-flag
 cast-with-flag c = search needs
 
--- src/data.rt:153:33
 element-copy-out-with-flag : tie.Need-element-copy-out-with-flag
 element-copy-out-with-flag c = search needs
 
--- src/data.rt:153:9
 with-flag-requires : tie.Need-with-flag-requires
 with-flag-requires c κs = search needs
 
--- src/data.rt:154:14
 write-requires-2 : tie.Need-write-requires-2
 write-requires-2 c κs = search needs
 
--- src/data.rt:155:14
 write-requires-3 : tie.Need-write-requires-3
 write-requires-3 c κs = search needs
 
--- src/data.rt:142:1
 returns-2 : tie.Need-returns-2
 unfolding writesOf rotateWrites writesApplied
 returns-2 c = rw (← c .before .before .before .before .before .before .before .before .before .before .before .before .register .ensures, ← c .before .before .before .before .before .before .before .before .before .before .read .ensures, ← c .before .before .before .before .before .before .before .before .is-set .ensures, ← c .before .before .before .before .before .before .before .rotate .ensures, ne-eqb _ _ (c .before .before .before .before .before .before .if1 .left), c .write3 .ensures, c .before .before .write2 .ensures, c .before .before .before .before .with-flag .ensures)

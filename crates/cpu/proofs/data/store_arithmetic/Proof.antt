@@ -4,47 +4,33 @@ use Rattle.cpu.specs.Data.{arithmeticWrites}
 use borrow.Author.Needs.{needs}
 use Rattle.cpu.proofs.data.store_arithmetic.Statement.{statement}
 use Rattle.cpu.proofs.data.store_arithmetic.Tie as tie
-use Rattle.cpu.proofs.data.store_arithmetic.Reads as reads
-use Rattle.cpu.proofs.data.store_arithmetic.Lts as lts
-use Rattle.cpu.proofs.data.flags_after.Reads as flags-after-reads
-use Rattle.memory.proofs.is_set.Reads as is-set-reads
-use Rattle.memory.proofs.write.Reads as write-reads
 
--- src/data.rt:28:9
 flags-after-requires : tie.Need-flags-after-requires
 flags-after-requires c κs = search needs
 
--- src/data.rt:29:8
 is-set-requires : tie.Need-is-set-requires
 is-set-requires c κs = search needs
 
--- src/data.rt:30:18
 write-requires : tie.Need-write-requires
 write-requires c κs = search needs
 
--- src/data.rt:31:9
 returns : tie.Need-returns
 unfolding arithmeticWrites writesApplied
 returns c = rw (← c .before .before .before .is-set .ensures, c .before .before .if1 .taken, c .write .ensures, c .before .before .before .before .before .flags-after .ensures)
 
--- src/data.rt:34:18
 write-requires-2 : tie.Need-write-requires-2
 write-requires-2 c κs = search needs
 
--- src/data.rt:35:9
 returns-2 : tie.Need-returns-2
 unfolding arithmeticWrites writesApplied
 returns-2 c = rw (← c .before .before .before .before .is-set .ensures, c .before .before .before .if1 .left, eq-eqb _ _ (c .before .before .if2 .taken), c .write2 .ensures)
 
--- src/data.rt:37:14
 write-requires-3 : tie.Need-write-requires-3
 write-requires-3 c κs = search needs
 
--- src/data.rt:38:14
 write-requires-4 : tie.Need-write-requires-4
 write-requires-4 c κs = search needs
 
--- src/data.rt:25:1
 returns-3 : tie.Need-returns-3
 unfolding arithmeticWrites writesApplied
 returns-3 c = rw (← c .before .before .before .before .before .before .is-set .ensures, c .before .before .before .before .before .if1 .left, ne-eqb _ _ (c .before .before .before .before .if2 .left), c .write4 .ensures, c .before .before .write3 .ensures, c .before .before .before .before .before .before .before .before .flags-after .ensures)

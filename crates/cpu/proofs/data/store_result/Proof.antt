@@ -3,98 +3,73 @@ use Rattle.cpu.specs.Data.{resultWrites}
 use borrow.Author.Needs.{needs}
 use Rattle.cpu.proofs.data.store_result.Statement.{statement}
 use Rattle.cpu.proofs.data.store_result.Tie as tie
-use Rattle.cpu.proofs.data.store_result.Reads as reads
-use Rattle.cpu.proofs.data.store_result.Lts as lts
-use Rattle.cpu.proofs.data.store_arithmetic.Reads as store-arithmetic-reads
-use Rattle.memory.proofs.write.Reads as write-reads
 
--- src/data.rt:46:40
 enum-told : tie.Need-enum-told
 enum-told c = search needs
 
--- src/data.rt:46:23
 store-arithmetic-requires : tie.Need-store-arithmetic-requires
 store-arithmetic-requires c κs = search needs
 
--- src/data.rt:47:41
 enum-told-2 : tie.Need-enum-told-2
 enum-told-2 c = search needs
 
--- src/data.rt:47:24
 store-arithmetic-requires-2 : tie.Need-store-arithmetic-requires-2
 store-arithmetic-requires-2 c κs = search needs
 
--- src/data.rt:48:40
 enum-told-3 : tie.Need-enum-told-3
 enum-told-3 c = search needs
 
--- src/data.rt:48:23
 store-arithmetic-requires-3 : tie.Need-store-arithmetic-requires-3
 store-arithmetic-requires-3 c κs = search needs
 
--- src/data.rt:49:41
 enum-told-4 : tie.Need-enum-told-4
 enum-told-4 c = search needs
 
--- src/data.rt:49:24
 store-arithmetic-requires-4 : tie.Need-store-arithmetic-requires-4
 store-arithmetic-requires-4 c κs = search needs
 
--- src/data.rt:51:36
 enum-told-5 : tie.Need-enum-told-5
 enum-told-5 c = search needs
 
--- src/data.rt:51:22
 write-requires : tie.Need-write-requires
 write-requires c κs = search needs
 
--- src/data.rt:54:36
 enum-told-6 : tie.Need-enum-told-6
 enum-told-6 c = search needs
 
--- src/data.rt:54:22
 write-requires-2 : tie.Need-write-requires-2
 write-requires-2 c κs = search needs
 
--- src/data.rt:57:36
 enum-told-7 : tie.Need-enum-told-7
 enum-told-7 c = search needs
 
--- src/data.rt:57:22
 write-requires-3 : tie.Need-write-requires-3
 write-requires-3 c κs = search needs
 
--- src/data.rt:42:1
 returns : tie.Need-returns
 unfolding resultWrites writesApplied
 returns c = rw (c .before .before .enum-told .given .1) (c .store-arithmetic .ensures)
 
--- src/data.rt:42:1
 returns-2 : tie.Need-returns-2
 unfolding resultWrites writesApplied
 returns-2 c = rw (c .before .before .enum-told2 .given .1) (c .store-arithmetic2 .ensures)
 
--- src/data.rt:42:1
 returns-3 : tie.Need-returns-3
 unfolding resultWrites writesApplied
 returns-3 c = rw (c .before .before .enum-told3 .given .1) (c .store-arithmetic3 .ensures)
 
--- src/data.rt:42:1
 returns-4 : tie.Need-returns-4
 unfolding resultWrites writesApplied
 returns-4 c = rw (c .before .before .enum-told4 .given .1) (c .store-arithmetic4 .ensures)
 
--- src/data.rt:42:1
 returns-5 : tie.Need-returns-5
 unfolding resultWrites writesApplied
 returns-5 c = rw (c .before .before .enum-told5 .given .1, c .write .ensures)
 
--- src/data.rt:42:1
 returns-6 : tie.Need-returns-6
 unfolding resultWrites writesApplied
 returns-6 c = rw (c .before .before .enum-told6 .given .1, c .write2 .ensures)
 
--- src/data.rt:42:1
 returns-7 : tie.Need-returns-7
 unfolding resultWrites writesApplied
 returns-7 c = rw (c .before .before .enum-told7 .given .1, c .write3 .ensures)

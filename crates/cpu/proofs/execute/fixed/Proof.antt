@@ -13,147 +13,103 @@ use Rattle.cpu.specs.Step.{writtenOf, pastTable}
 use borrow.Author.Needs.{needs}
 use Rattle.cpu.proofs.execute.fixed.Statement.{statement}
 use Rattle.cpu.proofs.execute.fixed.Tie as tie
-use Rattle.cpu.proofs.execute.fixed.Reads as reads
-use Rattle.cpu.proofs.execute.fixed.Lts as lts
-use Rattle.cpu.proofs.execute.movt.Reads as movt-reads
-use Rattle.cpu.proofs.execute.pop_ar.Reads as pop-ar-reads
-use Rattle.cpu.proofs.flow.call.Reads as call-reads
-use Rattle.cpu.proofs.flow.jump.Reads as jump-reads
-use Rattle.cpu.proofs.flow.onward.Reads as onward-reads
-use Rattle.cpu.proofs.flow.push.Reads as push-reads
-use Rattle.cpu.proofs.flow.ret.Reads as ret-reads
-use Rattle.memory.proofs.ar.Reads as ar-reads
-use Rattle.memory.proofs.increment_ar.Reads as increment-ar-reads
-use Rattle.memory.proofs.increment_ix.Reads as increment-ix-reads
 
--- src/execute.rt:55:43
 enum-told : tie.Need-enum-told
 enum-told c = search needs
 
--- src/execute.rt:55:22
 increment-ar-requires : tie.Need-increment-ar-requires
 increment-ar-requires c κs = search needs
 
--- src/execute.rt:56:23
 onward-requires : tie.Need-onward-requires
 onward-requires c κs = search needs
 
--- src/execute.rt:59:43
 enum-told-2 : tie.Need-enum-told-2
 enum-told-2 c = search needs
 
--- src/execute.rt:59:22
 increment-ix-requires : tie.Need-increment-ix-requires
 increment-ix-requires c κs = search needs
 
--- src/execute.rt:60:23
 onward-requires-2 : tie.Need-onward-requires-2
 onward-requires-2 c κs = search needs
 
--- src/execute.rt:62:36
 enum-told-3 : tie.Need-enum-told-3
 enum-told-3 c = search needs
 
--- src/execute.rt:62:26
 movt-requires : tie.Need-movt-requires
 movt-requires c κs = search needs
 
--- src/execute.rt:63:39
 enum-told-4 : tie.Need-enum-told-4
 enum-told-4 c = search needs
 
--- src/execute.rt:63:52
 ar-requires : tie.Need-ar-requires
 ar-requires c κs = search needs
 
--- src/execute.rt:63:28
 push-requires : tie.Need-push-requires
 push-requires c κs = search needs
 
--- src/execute.rt:64:34
 enum-told-5 : tie.Need-enum-told-5
 enum-told-5 c = search needs
 
--- src/execute.rt:64:27
 pop-ar-requires : tie.Need-pop-ar-requires
 pop-ar-requires c κs = search needs
 
--- src/execute.rt:65:64
 enum-told-6 : tie.Need-enum-told-6
 enum-told-6 c = search needs
 
--- src/execute.rt:65:53
 ar-requires-2 : tie.Need-ar-requires-2
 ar-requires-2 c κs = search needs
 
--- src/execute.rt:65:36
 jump-requires : tie.Need-jump-requires
 jump-requires c κs = search needs
 
--- src/execute.rt:66:39
 enum-told-7 : tie.Need-enum-told-7
 enum-told-7 c = search needs
 
--- src/execute.rt:66:52
 ar-requires-3 : tie.Need-ar-requires-3
 ar-requires-3 c κs = search needs
 
--- src/execute.rt:66:28
 call-requires : tie.Need-call-requires
 call-requires c κs = search needs
 
--- src/execute.rt:67:35
 enum-told-8 : tie.Need-enum-told-8
 enum-told-8 c = search needs
 
--- src/execute.rt:67:25
 ret-requires : tie.Need-ret-requires
 ret-requires c κs = search needs
 
--- src/execute.rt:68:37
 enum-told-9 : tie.Need-enum-told-9
 enum-told-9 c = search needs
 
--- src/execute.rt:68:27
 ret-requires-2 : tie.Need-ret-requires-2
 ret-requires-2 c κs = search needs
 
--- src/execute.rt:69:41
 enum-told-10 : tie.Need-enum-told-10
 enum-told-10 c = search needs
 
--- src/execute.rt:70:39
 enum-told-11 : tie.Need-enum-told-11
 enum-told-11 c = search needs
 
--- src/execute.rt:71:39
 enum-told-12 : tie.Need-enum-told-12
 enum-told-12 c = search needs
 
--- src/execute.rt:72:35
 enum-told-13 : tie.Need-enum-told-13
 enum-told-13 c = search needs
 
--- src/execute.rt:72:35
 onward-requires-3 : tie.Need-onward-requires-3
 onward-requires-3 c κs = search needs
 
--- src/execute.rt:49:1
 returns : tie.Need-returns
 unfolding controlOf skipsOf pastTable writtenOf writesOf writesApplied
 returns c = λ input. rw (c .before .before .before .enum-told .given .1) (completes _ _ input _ _ _ _ _ _ _ (c .onward .ensures _) refl (c .before .increment-ar .ensures))
 
--- src/execute.rt:49:1
 returns-2 : tie.Need-returns-2
 unfolding controlOf skipsOf pastTable writtenOf writesOf writesApplied
 returns-2 c = λ input. rw (c .before .before .before .enum-told2 .given .1) (completes _ _ input _ _ _ _ _ _ _ (c .onward2 .ensures _) refl (c .before .increment-ix .ensures))
 
--- src/execute.rt:49:1
 returns-3 : tie.Need-returns-3
 unfolding controlOf skipsOf pastTable writtenOf writesOf writesApplied
 returns-3 c = λ input. rw (c .before .before .enum-told3 .given .1) (c .movt .ensures input _)
 
--- src/execute.rt:49:1
 returns-4 : tie.Need-returns-4
 unfolding controlOf skipsOf pastTable writtenOf writesOf writesApplied
 returns-4 c = λ input.
@@ -162,12 +118,10 @@ returns-4 c = λ input.
     (moves _ _ input _ _ _ _ (c .push .result) (c .push .last .0)
     (c .push .ensures ∙ ap (λ (n : ℕ). pushOf upd17132 n (withStack (s .stack .now) (s .regs))) (c .before .ar .ensures)) refl refl)
 
--- src/execute.rt:49:1
 returns-5 : tie.Need-returns-5
 unfolding controlOf skipsOf pastTable writtenOf writesOf writesApplied
 returns-5 c = λ input. rw (c .before .before .before .enum-told5 .given .1) (c .pop-ar .ensures _ input)
 
--- src/execute.rt:49:1
 returns-6 : tie.Need-returns-6
 unfolding controlOf skipsOf pastTable writtenOf writesOf writesApplied
 returns-6 c = λ input.
@@ -177,7 +131,6 @@ returns-6 c = λ input.
     (ap goes (c .jump .ensures (s .stack .now) ∙ ap (λ (n : ℕ). jump n (withStack (s .stack .now) (s .regs))) (c .before .ar2 .ensures)))
     refl refl)
 
--- src/execute.rt:49:1
 returns-7 : tie.Need-returns-7
 unfolding controlOf skipsOf pastTable writtenOf writesOf writesApplied
 returns-7 c = λ input.
@@ -186,32 +139,26 @@ returns-7 c = λ input.
     (moves _ _ input _ _ _ _ (c .call .result) (c .call .last .0)
     (c .call .ensures ∙ ap (λ (n : ℕ). callOf upd17132 n (withStack (s .stack .now) (s .regs))) (c .before .ar3 .ensures)) refl refl)
 
--- src/execute.rt:49:1
 returns-8 : tie.Need-returns-8
 unfolding controlOf skipsOf pastTable writtenOf writesOf writesApplied
 returns-8 c = λ input. rw (c .before .before .enum-told8 .given .1) (moves _ _ input _ _ _ _ (c .ret .result) (c .ret .last .0) (c .ret .ensures) refl refl)
 
--- src/execute.rt:49:1
 returns-9 : tie.Need-returns-9
 unfolding controlOf skipsOf pastTable writtenOf writesOf writesApplied
 returns-9 c = λ input. rw (c .before .before .enum-told9 .given .1) (moves _ _ input _ _ _ _ (c .ret2 .result) (c .ret2 .last .0) (c .ret2 .ensures) refl refl)
 
--- src/execute.rt:49:1
 returns-10 : tie.Need-returns-10
 unfolding controlOf skipsOf pastTable writtenOf writesOf writesApplied executeOf
 returns-10 c = λ input. rw (c .enum-told10 .given .1)
 
--- src/execute.rt:49:1
 returns-11 : tie.Need-returns-11
 unfolding controlOf skipsOf pastTable writtenOf writesOf writesApplied executeOf
 returns-11 c = λ input. rw (c .enum-told11 .given .1)
 
--- src/execute.rt:49:1
 returns-12 : tie.Need-returns-12
 unfolding controlOf skipsOf pastTable writtenOf writesOf writesApplied executeOf
 returns-12 c = λ input. rw (c .enum-told12 .given .1)
 
--- src/execute.rt:49:1
 returns-13 : tie.Need-returns-13
 unfolding controlOf skipsOf pastTable writtenOf writesOf writesApplied
 returns-13 c = λ input. rw (c .before .enum-told13 .given .1) (completes _ _ input _ _ _ _ _ _ _ (c .onward3 .ensures _) refl refl)

@@ -8,40 +8,28 @@ use borrow.Author.Tests.{le-leb, lt-leb, eq-eqb, ne-eqb}
 use borrow.Author.Needs.{needs}
 use Rattle.cpu.proofs.execute.movt.Statement.{statement}
 use Rattle.cpu.proofs.execute.movt.Tie as tie
-use Rattle.cpu.proofs.execute.movt.Reads as reads
-use Rattle.cpu.proofs.execute.movt.Lts as lts
-use Rattle.cpu.proofs.flow.table.Reads as table-reads
-use Rattle.memory.proofs.ar.Reads as ar-reads
-use Rattle.memory.proofs.write_buffer.Reads as write-buffer-reads
 
--- src/execute.rt:22:9
 table-requires : tie.Need-table-requires
 table-requires c κs = search needs
 
--- src/execute.rt:23:19
 enum-known-moved : tie.Need-enum-known-moved
 enum-known-moved c = search needs
 
--- src/execute.rt:24:9
 enum-told : tie.Need-enum-told
 enum-told c = search needs
 
--- src/execute.rt:24:9
 returns : tie.Need-returns
 unfolding controlOf skipsOf pastTable writtenOf writesOf
 returns c = λ input stack.
     let g = c .enum-told .given in
     rw (g .1) (refuses _ _ input _ stack _ _ (g .0 .0) stack (rw (g .1) at (c .before .before .table .ensures stack)))
 
--- src/execute.rt:26:14
 ar-requires : tie.Need-ar-requires
 ar-requires c κs = search needs
 
--- src/execute.rt:26:14
 cast-ar : tie.Need-cast-ar
 cast-ar c = search needs
 
--- src/execute.rt:28:9
 returns-2 : tie.Need-returns-2
 unfolding controlOf skipsOf pastTable writtenOf writesOf
 returns-2 c = λ input stack.
@@ -49,19 +37,15 @@ returns-2 c = λ input stack.
     misses _ _ input _ stack _ _ stack (g .0 .0) (rw (g .1) at (c .before .before .before .before .before .before .table .ensures stack))
     (rw (← c .before .ar .ensures) (le-leb _ _ (c .if1 .taken)))
 
--- src/execute.rt:30:43
 mul-write-buffer : tie.Need-mul-write-buffer
 mul-write-buffer c = search needs
 
--- src/execute.rt:30:43
 shared-slice-read-write-buffer : tie.Need-shared-slice-read-write-buffer
 shared-slice-read-write-buffer c = search needs
 
--- src/execute.rt:30:14
 write-buffer-requires : tie.Need-write-buffer-requires
 write-buffer-requires c κs = search needs
 
--- src/execute.rt:19:1
 returns-3 : tie.Need-returns-3
 unfolding controlOf skipsOf pastTable writtenOf writesOf
 returns-3 c = λ input stack.

@@ -8,43 +8,31 @@ use Rattle.cpu.specs.declared.Refusal.the-variants.{StackEmpty}
 use borrow.Author.Needs.{needs}
 use Rattle.cpu.proofs.execute.pop_ar.Statement.{statement}
 use Rattle.cpu.proofs.execute.pop_ar.Tie as tie
-use Rattle.cpu.proofs.execute.pop_ar.Reads as reads
-use Rattle.cpu.proofs.execute.pop_ar.Lts as lts
-use Rattle.cpu.proofs.flow.pop.Reads as pop-reads
-use Rattle.memory.proofs.write_ar.Reads as write-ar-reads
 
--- src/execute.rt:41:9
 returns : tie.Need-returns
 unfolding controlOf skipsOf pastTable writtenOf writesOf popOf
 returns c = λ rom input.
     let s = c .before .args in
     refuses _ rom input _ (s .stack .now) _ _ StackEmpty (s .stack .now) (simp (eq-eqb _ _ (c .if1 .taken)))
 
--- src/execute.rt:43:22
 sub-top : tie.Need-sub-top
 sub-top c = search needs
 
--- src/execute.rt:43:21
 cast-top : tie.Need-cast-top
 cast-top c = search needs
 
--- src/execute.rt:43:15
 mul-top : tie.Need-mul-top
 mul-top c = search needs
 
--- src/execute.rt:43:15
 element-copy-out-top : tie.Need-element-copy-out-top
 element-copy-out-top c = search needs
 
--- src/execute.rt:44:14
 write-ar-requires : tie.Need-write-ar-requires
 write-ar-requires c κs = search needs
 
--- src/execute.rt:45:5
 pop-requires : tie.Need-pop-requires
 pop-requires c κs = search needs
 
--- src/execute.rt:35:1
 returns-2 : tie.Need-returns-2
 unfolding controlOf skipsOf pastTable writtenOf writesOf popOf
 returns-2 c = λ rom input.

@@ -2,15 +2,11 @@ use borrow.Author.Tests.{le-leb, lt-leb}
 use Rattle.cpu.specs.Control.{branchOf}
 use Rattle.cpu.proofs.flow.branch.Statement.{statement}
 use Rattle.cpu.proofs.flow.branch.Tie as tie
-use Rattle.cpu.proofs.flow.branch.Reads as reads
-use Rattle.cpu.proofs.flow.branch.Lts as lts
 
--- src/flow.rt:42:9
 returns : tie.Need-returns
 unfolding branchOf
 returns c = λ stack. simp (le-leb _ _ (c .if1 .taken))
 
--- src/flow.rt:38:1
 returns-2 : tie.Need-returns-2
 unfolding branchOf
 returns-2 c = λ stack. simp (lt-leb _ _ (c .if1 .left))

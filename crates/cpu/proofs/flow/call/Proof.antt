@@ -3,36 +3,26 @@ use Rattle.cpu.specs.Control.{callOf}
 use borrow.Author.Needs.{needs}
 use Rattle.cpu.proofs.flow.call.Statement.{statement}
 use Rattle.cpu.proofs.flow.call.Tie as tie
-use Rattle.cpu.proofs.flow.call.Reads as reads
-use Rattle.cpu.proofs.flow.call.Lts as lts
-use Rattle.memory.proofs.next.Reads as next-reads
 
--- src/flow.rt:58:9
 returns : tie.Need-returns
 unfolding callOf
 returns c = simp (le-leb _ _ (c .if1 .taken))
 
--- src/flow.rt:60:30
 next-requires : tie.Need-next-requires
 next-requires c κs = search needs
 
--- src/flow.rt:60:11
 cast-stack : tie.Need-cast-stack
 cast-stack c = search needs
 
--- src/flow.rt:60:5
 mul-stack : tie.Need-mul-stack
 mul-stack c = search needs
 
--- src/flow.rt:60:5
 element-write-stack : tie.Need-element-write-stack
 element-write-stack c = search needs
 
--- src/flow.rt:63:17
 add-t12 : tie.Need-add-t12
 add-t12 c = search needs
 
--- src/flow.rt:53:1
 returns-2 : tie.Need-returns-2
 unfolding callOf
 returns-2 c = simp (lt-leb _ _ (c .before .if1 .left), c .next .ensures)

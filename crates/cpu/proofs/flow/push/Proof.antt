@@ -3,36 +3,26 @@ use Rattle.cpu.specs.Control.{pushOf}
 use borrow.Author.Needs.{needs}
 use Rattle.cpu.proofs.flow.push.Statement.{statement}
 use Rattle.cpu.proofs.flow.push.Tie as tie
-use Rattle.cpu.proofs.flow.push.Reads as reads
-use Rattle.cpu.proofs.flow.push.Lts as lts
-use Rattle.memory.proofs.next.Reads as next-reads
 
--- src/flow.rt:105:9
 returns : tie.Need-returns
 unfolding pushOf
 returns c = simp (le-leb _ _ (c .if1 .taken))
 
--- src/flow.rt:107:11
 cast-stack : tie.Need-cast-stack
 cast-stack c = search needs
 
--- src/flow.rt:107:5
 mul-stack : tie.Need-mul-stack
 mul-stack c = search needs
 
--- src/flow.rt:107:5
 element-write-stack : tie.Need-element-write-stack
 element-write-stack c = search needs
 
--- src/flow.rt:109:13
 next-requires : tie.Need-next-requires
 next-requires c κs = search needs
 
--- src/flow.rt:110:17
 add-t12 : tie.Need-add-t12
 add-t12 c = search needs
 
--- src/flow.rt:100:1
 returns-2 : tie.Need-returns-2
 unfolding pushOf
 returns-2 c = simp (lt-leb _ _ (c .before .if1 .left), c .next .ensures)

@@ -3,43 +3,32 @@ use Rattle.cpu.specs.Control.{returnOf}
 use borrow.Author.Needs.{needs}
 use Rattle.cpu.proofs.flow.ret.Statement.{statement}
 use Rattle.cpu.proofs.flow.ret.Tie as tie
-use Rattle.cpu.proofs.flow.ret.Reads as reads
-use Rattle.cpu.proofs.flow.ret.Lts as lts
 
--- src/flow.rt:86:9
 returns : tie.Need-returns
 unfolding returnOf
 returns c = simp (eq-eqb _ _ (c .if1 .taken))
 
--- src/flow.rt:88:16
 sub-top : tie.Need-sub-top
 sub-top c = search needs
 
--- src/flow.rt:88:15
 cast-top : tie.Need-cast-top
 cast-top c = search needs
 
--- src/flow.rt:89:14
 mul-to : tie.Need-mul-to
 mul-to c = search needs
 
--- src/flow.rt:89:14
 element-copy-out-to : tie.Need-element-copy-out-to
 element-copy-out-to c = search needs
 
--- src/flow.rt:90:5
 mul-stack : tie.Need-mul-stack
 mul-stack c = search needs
 
--- src/flow.rt:90:5
 element-write-stack : tie.Need-element-write-stack
 element-write-stack c = search needs
 
--- src/flow.rt:93:17
 sub-t9 : tie.Need-sub-t9
 sub-t9 c = search needs
 
--- src/flow.rt:80:1
 returns-2 : tie.Need-returns-2
 unfolding returnOf
 returns-2 c = simp (ne-eqb _ _ (c .before .if1 .left))

@@ -3,20 +3,14 @@ use Rattle.cpu.specs.Control.{tableOf}
 use borrow.Author.Needs.{needs}
 use Rattle.cpu.proofs.flow.table.Statement.{statement}
 use Rattle.cpu.proofs.flow.table.Tie as tie
-use Rattle.cpu.proofs.flow.table.Reads as reads
-use Rattle.cpu.proofs.flow.table.Lts as lts
-use Rattle.memory.proofs.next.Reads as next-reads
 
--- src/flow.rt:139:9
 returns : tie.Need-returns
 unfolding tableOf
 returns c = λ stack. simp (le-leb _ _ (c .if1 .taken))
 
--- src/flow.rt:142:13
 next-requires : tie.Need-next-requires
 next-requires c κs = search needs
 
--- src/flow.rt:135:1
 returns-2 : tie.Need-returns-2
 unfolding tableOf
 returns-2 c = λ stack. simp (lt-leb _ _ (c .before .if1 .left), c .next .ensures)

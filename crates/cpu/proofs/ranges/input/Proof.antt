@@ -4,29 +4,21 @@ use Rattle.cpu.specs.Ranges.{inputInRange}
 use borrow.Author.Needs.{needs}
 use Rattle.cpu.proofs.ranges.input.Statement.{statement}
 use Rattle.cpu.proofs.ranges.input.Tie as tie
-use Rattle.cpu.proofs.ranges.input.Reads as reads
-use Rattle.cpu.proofs.ranges.input.Lts as lts
-use Rattle.cpu.proofs.ranges.nibbles.Reads as nibbles-reads
 
--- src/ranges.rt:81:9
 nibbles-requires : tie.Need-nibbles-requires
 nibbles-requires c κs = search needs
 
--- src/ranges.rt:82:9
 returns : tie.Need-returns
 unfolding inputInRange
 returns c = simp (sym (c .before .nibbles .ensures) ∙ not-true _ (c .if1 .taken))
 
--- src/ranges.rt:85:9
 nibbles-requires-2 : tie.Need-nibbles-requires-2
 nibbles-requires-2 c κs = search needs
 
--- src/ranges.rt:86:9
 returns-2 : tie.Need-returns-2
 unfolding inputInRange
 returns-2 c = simp (sym (c .before .before .before .before .nibbles .ensures) ∙ not-false _ (c .before .before .before .if1 .left), sym (c .before .nibbles2 .ensures) ∙ not-true _ (c .if2 .taken))
 
--- src/ranges.rt:77:1
 returns-3 : tie.Need-returns-3
 unfolding inputInRange
 returns-3 c = simp (sym (c .before .before .before .before .before .nibbles .ensures) ∙ not-false _ (c .before .before .before .before .if1 .left), sym (c .before .before .nibbles2 .ensures) ∙ not-false _ (c .before .if2 .left))

@@ -1,14 +1,10 @@
 use borrow.Author.Tests.{lt-ltb, le-ltb, le-leb, lt-leb, eq-eqb, ne-eqb}
 use Rattle.cpu.proofs.ranges.level.Statement.{statement}
 use Rattle.cpu.proofs.ranges.level.Tie as tie
-use Rattle.cpu.proofs.ranges.level.Reads as reads
-use Rattle.cpu.proofs.ranges.level.Lts as lts
 
--- src/ranges.rt:35:9
 returns : tie.Need-returns
 returns c = simp (lt-ltb _ _ (c .if1 .taken))
 
--- src/ranges.rt:31:1
 returns-2 : tie.Need-returns-2
 returns-2 c = simp (le-ltb _ _ (c .if1 .left))
 

@@ -3,46 +3,34 @@ use borrow.Author.Tests.{lt-ltb, le-ltb, le-leb, lt-leb, eq-eqb, ne-eqb}
 use borrow.Author.Needs.{needs}
 use Rattle.cpu.proofs.ranges.nibbles.Statement.{statement}
 use Rattle.cpu.proofs.ranges.nibbles.Tie as tie
-use Rattle.cpu.proofs.ranges.nibbles.Reads as reads
-use Rattle.cpu.proofs.ranges.nibbles.Lts as lts
 
--- src/ranges.rt:15:14
 array-read-if1 : tie.Need-array-read-if1
 array-read-if1 c = search needs
 
--- src/ranges.rt:16:9
 returns : tie.Need-returns
 returns c = rw (le-ltb _ _ (c .if1 .taken))
 
--- src/ranges.rt:18:14
 array-read-if2 : tie.Need-array-read-if2
 array-read-if2 c = search needs
 
--- src/ranges.rt:19:9
 returns-2 : tie.Need-returns-2
 returns-2 c = rw (lt-ltb _ _ (c .before .if1 .left), le-ltb _ _ (c .if2 .taken))
 
--- src/ranges.rt:21:14
 array-read-if3 : tie.Need-array-read-if3
 array-read-if3 c = search needs
 
--- src/ranges.rt:22:9
 returns-3 : tie.Need-returns-3
 returns-3 c = rw (lt-ltb _ _ (c .before .before .if1 .left), lt-ltb _ _ (c .before .if2 .left), le-ltb _ _ (c .if3 .taken))
 
--- src/ranges.rt:24:14
 array-read-if4 : tie.Need-array-read-if4
 array-read-if4 c = search needs
 
--- src/ranges.rt:25:9
 returns-4 : tie.Need-returns-4
 returns-4 c = rw (lt-ltb _ _ (c .before .before .before .if1 .left), lt-ltb _ _ (c .before .before .if2 .left), lt-ltb _ _ (c .before .if3 .left), le-ltb _ _ (c .if4 .taken))
 
--- src/ranges.rt:27:5
 array-read-result : tie.Need-array-read-result
 array-read-result c = search needs
 
--- src/ranges.rt:12:1
 returns-5 : tie.Need-returns-5
 returns-5 c = rw (lt-ltb _ _ (c .before .before .before .if1 .left), lt-ltb _ _ (c .before .before .if2 .left), lt-ltb _ _ (c .before .if3 .left), lt-ltb _ _ (c .if4 .left), and-true)
 

@@ -5,15 +5,11 @@ use lib.ListN.{length}
 use native.Mathlib.Omega.{arith}
 use Rattle.cpu.proofs.ranges.rom.Statement.{statement}
 use Rattle.cpu.proofs.ranges.rom.Tie as tie
-use Rattle.cpu.proofs.ranges.rom.Reads as reads
-use Rattle.cpu.proofs.ranges.rom.Lts as lts
 
--- src/ranges.rt:95:9
 returns : tie.Need-returns
 unfolding romInRange
 returns c = simp (c .if1 .taken)
 
--- src/ranges.rt:91:1
 returns-2 : tie.Need-returns-2
 unfolding romInRange
 returns-2 c = rw (lt-ltb 0 (length (c .before .args .words .now)) (omega arith))

@@ -17,56 +17,37 @@ use Rattle.cpu.proofs.Phases.{stays, past, passed-over, undecodable, ex
 use borrow.Author.Needs.{needs}
 use Rattle.cpu.proofs.stepping.advance.Statement.{statement}
 use Rattle.cpu.proofs.stepping.advance.Tie as tie
-use Rattle.cpu.proofs.stepping.advance.Reads as reads
-use Rattle.cpu.proofs.stepping.advance.Lts as lts
-use Rattle.cpu.proofs.execute.execute.Reads as execute-reads
-use Rattle.cpu.proofs.flow.onward.Reads as onward-reads
-use Rattle.cpu.proofs.stepping.fetch.Reads as fetch-reads
-use Rattle.cpu.proofs.stepping.refuse.Reads as refuse-reads
-use Rattle.cpu.proofs.stepping.stays.Reads as stays-reads
-use Rattle.cpu.proofs.stepping.woken.Reads as woken-reads
-use Rattle.isa.proofs.decode.Reads as decode-reads
 
--- src/stepping.rt:82:8
 stays-requires : tie.Need-stays-requires
 stays-requires c κs = search needs
 
--- src/stepping.rt:83:9
 returns : tie.Need-returns
 returns c = stays _ _ _ _ (sym (c .before .stays .ensures) ∙ c .if1 .taken)
 
--- src/stepping.rt:88:31
 fetch-requires : tie.Need-fetch-requires
 fetch-requires c κs = search needs
 
--- src/stepping.rt:88:23
 enum-known-word : tie.Need-enum-known-word
 enum-known-word c = search needs
 
--- src/stepping.rt:89:29
 enum-told : tie.Need-enum-told
 enum-told c = search needs
 
--- src/stepping.rt:89:9
 refuse-requires : tie.Need-refuse-requires
 refuse-requires c κs = search needs
 
--- src/stepping.rt:89:9
 returns-2 : tie.Need-returns-2
 returns-2 c =
     rw (c .refuse .ensures)
     (past _ _ _ _ (sym (c .before .before .before .before .before .stays .ensures) ∙ c .before .before .before .before .if1 .left)
     (past-rom (c .before .before .before .before .before .before .before .args .rom .now) (c .before .before .before .before .before .before .before .args .regs .pc) (sym (c .before .before .before .fetch .ensures) ∙ c .before .enum-told .given .1)))
 
--- src/stepping.rt:91:9
 woken-requires : tie.Need-woken-requires
 woken-requires c κs = search needs
 
--- src/stepping.rt:95:19
 onward-requires : tie.Need-onward-requires
 onward-requires c κs = search needs
 
--- src/stepping.rt:93:9
 returns-3 : tie.Need-returns-3
 unfolding onwardOf
 returns-3 c =
@@ -77,23 +58,18 @@ returns-3 c =
     ∙ ap (λ (k : Control). marked false (k .standby) (onwards upd17132 k)) (c .before .before .woken .ensures (s .stack .now)))
     ∙ passed-over _ _ _ _ (sym (c .before .before .before .before .before .before .before .before .stays .ensures) ∙ c .before .before .before .before .before .before .before .if1 .left) (w .0) (c .before .if2 .taken)
 
--- src/stepping.rt:98:45
 decode-requires : tie.Need-decode-requires
 decode-requires c κs = search needs
 
--- src/stepping.rt:98:30
 enum-known-instruction : tie.Need-enum-known-instruction
 enum-known-instruction c = search needs
 
--- src/stepping.rt:99:29
 enum-told-2 : tie.Need-enum-told-2
 enum-told-2 c = search needs
 
--- src/stepping.rt:99:9
 refuse-requires-2 : tie.Need-refuse-requires-2
 refuse-requires-2 c κs = search needs
 
--- src/stepping.rt:99:9
 returns-4 : tie.Need-returns-4
 returns-4 c =
     let w = word-at (c .before .before .before .before .before .before .before .before .before .before .before .before .before .args .rom .now) (c .before .before .before .before .before .before .before .before .before .before .before .before .before .args .regs .pc) _ (sym (c .before .before .before .before .before .before .before .before .before .fetch .ensures) ∙ c .before .before .before .before .before .before .before .word .given .1) in
@@ -101,23 +77,18 @@ returns-4 c =
     (undecodable _ _ _ _ (sym (c .before .before .before .before .before .before .before .before .before .before .before .stays .ensures) ∙ c .before .before .before .before .before .before .before .before .before .before .if1 .left) (w .0) (c .before .before .before .before .if2 .left)
     (ap decodeOf (w .1) ∙ sym (c .before .before .before .decode .ensures) ∙ ap decodingOf (c .before .enum-told2 .given .1)))
 
--- src/stepping.rt:101:11
 execute-requires : tie.Need-execute-requires
 execute-requires c κs = rw (ap (λ (k : Control). k .levels) (c .before .before .before .before .before .before .before .woken .ensures [])) (c .before .before .before .before .before .before .before .before .before .before .before .before .before .before .before .pre)
 
--- src/stepping.rt:102:19
 enum-known-next : tie.Need-enum-known-next
 enum-known-next c = search needs
 
--- src/stepping.rt:106:24
 enum-known-refusal : tie.Need-enum-known-refusal
 enum-known-refusal c = search needs
 
--- src/stepping.rt:106:36
 refuse-requires-3 : tie.Need-refuse-requires-3
 refuse-requires-3 c κs = search needs
 
--- src/stepping.rt:72:1
 returns-5 : tie.Need-returns-5
 returns-5 c =
     let s = c .before .before .before .before .before .before .before .before .before .before .before .before .before .before .before .before .before .before .before .args in
@@ -128,7 +99,6 @@ returns-5 c =
     ((rw (c .before .next .given .1) at (c .before .before .before .execute .ensures))
     ∙ ap (λ (k : Control). executeOf upd17132 (s .rom .now) (s .input) i (machineOf (s .cells .now) k)) (c .before .before .before .before .before .before .before .before .before .before .before .woken .ensures (s .stack .now)))
 
--- src/stepping.rt:72:1
 returns-6 : tie.Need-returns-6
 returns-6 c =
     let s = c .before .before .before .before .before .before .before .before .before .before .before .before .before .before .before .before .before .before .before .before .args in
