@@ -7,4 +7,3 @@ pub mod Data
 pub mod Step
 pub mod Run
 pub mod Inside
-pub mod RangeLaws

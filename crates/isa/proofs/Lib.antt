@@ -6,4 +6,3 @@ pub mod Back
 pub mod Forth
 pub mod RoundTrip
 pub mod Answers
-pub mod Cases

@@ -2,4 +2,3 @@ pub mod Answers
 pub mod Decode
 pub mod Encode
 pub mod RoundTrip
-pub mod Cases

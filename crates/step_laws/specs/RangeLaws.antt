@@ -1,15 +1,15 @@
--- A record in range stays in range, whatever the inputs and the ROM. Proved in proofs/Ranged.antt and proofs/Runs.antt.
+-- A record in range stays in range, whatever the inputs and the ROM. Proved in proofs/Ranges.antt.
 -- Assumes nothing.
 use mathlib.Core.Path.{_≡_}
 use mathlib.Core.Bool.{true}
 use mathlib.Core.List.{List}
 use Prim.Native.Nat.{ℕ}
 use Rattle.memory.specs.Chip.{Chip}
 use Rattle.cpu.specs.Ranges.{machineInRange}
 use Rattle.cpu.specs.Run.{runOf}
 use Rattle.cpu.specs.Step.{stepOf}
 use Rattle.cpu.specs.declared.Input.{Input}
 use Rattle.cpu.specs.declared.Machine.{Machine}
 
 pub record RangeLaws (chip : Chip) : Type 0 where
   pub step : (rom : List ℕ) (input : Input) (m : Machine) → machineInRange chip m ≡ true
