@@ -1,1 +1,6 @@
 pub mod Numbers
+pub mod Flows
+pub mod Written
+pub mod Ranges
+pub mod Runs
+pub mod Depends

@@ -1,4 +1,4 @@
--- An instruction depends on no cell but those that it reads. Proved in proofs/Reads.antt.
+-- An instruction depends on no cell but those that it reads. Proved in proofs/Depends.antt.
 -- Assumes nothing.
 use mathlib.Core.Path.{_≡_}
 use mathlib.Core.List.{List, [], _∷_}
