@@ -7,3 +7,4 @@ pub mod Ranged
 pub mod ArFits
 pub mod Turns
 pub mod NotDone
+pub mod Answers

@@ -118,8 +118,8 @@ module _ (chip : Chip) (rom : List ℕ) (input : Input) where
         let a : allInRange chip rom m' input ≡ true = all-of chip rom input m' (runs chip small fits rom input n m (p .0)) (p .1 .0) (p .1 .1) in
         let z : 0 + n ≡ n + 0 = omega arith in
         let j = subst (λ (x : Run).
-                x .refusal ≡ 0 → x .steps ≡ 0 + n → (n ≡ 0) ⊎ (isStandby (x .machine .control) ≡ false)
-                → runFrom chip rom input (n + k) 0 m ≡ runFrom chip rom input k (0 + n) (x .machine)) f (join-from n k 0 m) in
+        x .refusal ≡ 0 → x .steps ≡ 0 + n → (n ≡ 0) ⊎ (isStandby (x .machine .control) ≡ false)
+        → runFrom chip rom input (n + k) 0 m ≡ runFrom chip rom input k (0 + n) (x .machine)) f (join-from n k 0 m) in
         sym (begins chip rom input (n + k) m h e) ∙ j r (c ∙ omega arith) b
         ∙ ap (λ (i : ℕ). runFrom chip rom input k i m') z ∙ counted k n 0 m' ∙ ap (after n) (begins chip rom input k m' (omega arith) a)
 

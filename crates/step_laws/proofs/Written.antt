@@ -1,10 +1,11 @@
 -- The cells of writesOf are those of document 02, E7.
 -- Assumes nothing.
-use mathlib.Core.Path.{_≡_, refl}
-use mathlib.Core.Bool.{Bool, true, false, cond}
+use mathlib.Core.Path.{_≡_, _∙_, ap, refl}
+use mathlib.Core.Bool.{Bool, true, false, _||_, cond}
 use mathlib.Core.List.{List, [], _∷_, map}
 use Prim.Native.Nat.{ℕ}
 use lib.Dec.{eqb}
+use lib.ListN.{getD}
 use Rattle.alu.specs.declared.Outcome.{Outcome}
 use Rattle.alu.specs.Results.{operateOf}
 use Rattle.isa.specs.declared.AluOp.{AluOp}
@@ -16,9 +17,14 @@ use Rattle.isa.specs.declared.Instruction.the-variants.{AluRegister, AluImmedia
 use Rattle.memory.specs.Cells.{isSet}
 use Rattle.memory.specs.Chip.{Chip}
 use Rattle.memory.specs.Names.{PSW, CMP}
-use Rattle.memory.specs.Write.{Write, _↤_}
+use Rattle.memory.specs.Registers.{arOf}
+use Rattle.memory.specs.Write.{Write, _↤_, touches}
+use Rattle.memory.proofs.Writes.{untouched}
+use Rattle.cpu.specs.Control.{top}
 use Rattle.cpu.specs.Data.{Data, arithmeticWrites, resultWrites, rotateWrites, skipWrites, aluWrites, writesOf}
-use Rattle.step_laws.specs.WrittenCells.{withFlags, arithmetic, operated, tested, writtenCells, WrittenCells}
+use Rattle.cpu.specs.Parts.{cellsOf}
+use Rattle.cpu.specs.Step.{dataOf, writtenOf}
+use Rattle.step_laws.specs.WrittenCells.{withFlags, arithmetic, operated, tested, writtenCells, WrittenCells, among, Frame}
 
 abbrev ats : List Write → List ℕ
 ats ws = map (λ (w : Write). w .at) ws
@@ -89,3 +95,16 @@ written-cells chip d (Fixed Reti) top word = refl
 written-cells chip d (Fixed Ei) top word = refl
 written-cells chip d (Fixed Di) top word = refl
 written-cells chip d (Fixed Nop) top word = refl
+
+touched : (ws : List Write) (k : ℕ) → touches ws k ≡ among (ats ws) k
+touched [] k = refl
+touched (w ∷ ws) k = ap (λ (b : Bool). eqb k (w .at) || b) (touched ws k)
+
+pub frame : (chip : Chip) → Frame chip
+unfolding writtenOf
+frame chip rom input i m k e =
+    let d = dataOf m input in
+    let word = getD rom (arOf (cellsOf m)) 0 in
+    let ws = writesOf chip d i (top (m .control)) word in
+    untouched chip ws (cellsOf m) k
+    (touched ws k ∙ ap (λ (l : List ℕ). among l k) (written-cells chip d i (top (m .control)) word) ∙ e)

@@ -2,10 +2,11 @@
 -- in proofs/Written.antt.
 -- Assumes nothing.
 use mathlib.Core.Path.{_≡_}
-use mathlib.Core.Bool.{Bool, cond}
+use mathlib.Core.Bool.{Bool, false, _||_, cond}
 use mathlib.Core.List.{List, [], _∷_, map}
 use Prim.Native.Nat.{ℕ}
 use lib.Dec.{eqb}
+use lib.ListN.{getD}
 use Rattle.isa.specs.declared.AluOp.{AluOp}
 use Rattle.isa.specs.declared.AluOp.the-variants.{Add, AddC, Sub, SubC, Or, And, Xor}
 use Rattle.isa.specs.declared.SkipOp.{SkipOp}
@@ -19,6 +20,10 @@ use Rattle.memory.specs.Chip.{Chip}
 use Rattle.memory.specs.Names.{AR3, AR2, AR1, AR0, DBF3, DBF2, DBF1, DBF0, IXH, IXM, IXL, PSW, CMP}
 use Rattle.memory.specs.Write.{Write}
 use Rattle.cpu.specs.Data.{Data, atM, atR, atPointer, writesOf}
+use Rattle.cpu.specs.Parts.{cellsOf}
+use Rattle.cpu.specs.Step.{dataOf, writtenOf}
+use Rattle.cpu.specs.declared.Input.{Input}
+use Rattle.cpu.specs.declared.Machine.{Machine}
 
 module _ (chip : Chip) (d : Data) where
   -- a result and the flags: 7FH once where the result itself goes there
@@ -86,3 +91,14 @@ module _ (chip : Chip) (d : Data) where
 abbrev pub WrittenCells : Chip → Type 0
 WrittenCells chip =
     (d : Data) (i : Instruction) (top word : ℕ) → map (λ (w : Write). w .at) (writesOf chip d i top word) ≡ writtenCells chip d i
+
+-- whether an address is in a list
+abbrev pub among : List ℕ → ℕ → Bool
+among [] k = false
+among (at ∷ ats) k = eqb k at || among ats k
+
+-- a cell that an instruction does not write stays as it was
+abbrev pub Frame : Chip → Type 0
+Frame chip =
+    (rom : List ℕ) (input : Input) (i : Instruction) (m : Machine) (k : ℕ) → among (writtenCells chip (dataOf m input) i) k ≡ false
+    → getD (writtenOf chip rom input i m) k 0 ≡ getD (cellsOf m) k 0
