@@ -142,16 +142,16 @@ pub fn skip(
 pub fn rorc(cells: &mut [u8; 128], pins: [u8; 5], directions: [u8; 5], r: u8)
     ensures { λ _. ⌜ now (cells .exit) ≡ writtenBy upd17132 (dataAt (now (cells .entry)) pins directions) (Instruction.Rorc r) ⌝ }
 {
-    let at = memory::register(&*cells, r);
-    let x = memory::read(&*cells, pins, directions, at);
+    let to = memory::register(&*cells, r);
+    let x = memory::read(&*cells, pins, directions, to);
     let carry = memory::is_set(&*cells, Memory::PSW, Memory::CY);
     let o = alu::rotate(x, carry);
-    if at == Memory::PSW {
+    if to == Memory::PSW {
         *cells = memory::write(*cells, Memory::PSW, o.result);
         return;
     }
     let psw = memory::with_flag(cells[Memory::PSW as usize], Memory::CY, o.carry);
-    *cells = memory::write(*cells, at, o.result);
+    *cells = memory::write(*cells, to, o.result);
     *cells = memory::write(*cells, Memory::PSW, psw);
 }
 
