@@ -3,6 +3,7 @@
 mod addresses;
 mod cells;
 mod decimal;
+mod names;
 mod print;
 mod range;
 mod results;
@@ -10,6 +11,7 @@ mod setup;
 mod skips;
 
 fn main() {
+    names::show_all();
     results::show_cases();
     addresses::show_cases();
     results::show_compares();

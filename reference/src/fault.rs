@@ -1,0 +1,87 @@
+//! Deliberate faults of the kind that looks right, for testing a comparison.
+//!
+//! Without the feature `faults`, `fault` is the constant false and every
+//! marked place compiles to the right behaviour at no cost. With it, the one
+//! fault whose number stands in `FAULT` is active; 0 is none.
+
+#[cfg(feature = "faults")]
+use std::sync::atomic::{AtomicU32, Ordering};
+
+/// The number of the active fault, 0 for none.
+#[cfg(feature = "faults")]
+pub static FAULT: AtomicU32 = AtomicU32::new(0);
+
+/// Makes fault `n` active (0: none).
+#[cfg(feature = "faults")]
+pub fn set_fault(n: u32) {
+    FAULT.store(n, Ordering::Relaxed);
+}
+
+/// Is fault `n` active?
+#[cfg(feature = "faults")]
+#[inline(always)]
+pub(crate) fn fault(n: u32) -> bool {
+    FAULT.load(Ordering::Relaxed) == n
+}
+
+#[cfg(not(feature = "faults"))]
+#[inline(always)]
+pub(crate) const fn fault(_: u32) -> bool {
+    false
+}
+
+/// IX is ORed into r.
+pub const IX_IN_R: u32 = 1;
+/// IX is ORed into the column of @r.
+pub const IX_IN_COLUMN: u32 = 2;
+/// A decimal difference of -10 gives no borrow.
+pub const DECIMAL_NO_BORROW: u32 = 3;
+/// A skipped word is decoded, and refused with 3 or 4.
+pub const SKIPPED_DECODED: u32 = 4;
+/// A BR address is masked to 10 bits.
+pub const BRANCH_MASKED: u32 = 5;
+/// The two high bits of P0E read their pins.
+pub const P0E_HIGH_PINS: u32 = 6;
+/// Direction 1 reads the pin, 0 the stored bit.
+pub const DIRECTION_INVERTED: u32 = 7;
+/// CMP 1 stores the arithmetic result.
+pub const COMPARE_STORES: u32 = 8;
+/// CMP 1 sets Z at a result of 0.
+pub const COMPARE_SETS_Z: u32 = 9;
+/// INC IX clears MPE.
+pub const INC_IX_CLEARS_MPE: u32 = 10;
+/// MOVT works with a full stack.
+pub const MOVT_WITHOUT_LEVEL: u32 = 11;
+/// A run that begins standing with release 0 reports one step.
+pub const STANDBY_COUNTED: u32 = 12;
+/// RETSK sets no skip.
+pub const RETSK_NO_SKIP: u32 = 13;
+/// The check drops rule 5's clause on RETSK.
+pub const CHECK_NO_RETSK_CLAUSE: u32 = 14;
+/// A return leaves the closed stack place as it is.
+pub const STACK_NOT_CLEARED: u32 = 15;
+/// CMP 0, destination 7FH: CY and Z are set after the result is stored.
+pub const PSW_FLAGS_AFTER_STORE: u32 = 16;
+/// Z goes by the stored cell, after its fixed bits are cut.
+pub const ZERO_OF_STORED: u32 = 17;
+/// RORC on 7FH also puts its bit into CY.
+pub const RORC_PSW_CARRY: u32 = 18;
+/// With IXE set, MPE does not count.
+pub const MPE_ONLY_WITHOUT_IXE: u32 = 19;
+/// CALL asks for a free level before it looks at its address.
+pub const LEVEL_BEFORE_ADDRESS: u32 = 20;
+/// SKT and SKF clear CMP only when they skip.
+pub const TEST_KEEPS_CMP: u32 = 21;
+/// A released step that is refused loses the standing mark.
+pub const RELEASE_LOST: u32 = 22;
+/// PC goes on at 0 after the ROM's last word.
+pub const WRAP_AT_ROM_END: u32 = 23;
+/// Sheet entries 6 to 14 count as never reached.
+pub const CHECK_ODD_ENTRY: u32 = 24;
+/// A cut file is 21 even if its last byte is out of range.
+pub const SHORT_BEFORE_RANGE: u32 = 25;
+/// r is read from its cell, past the port rule.
+pub const R_PAST_PORT: u32 = 26;
+
+/// The number of the last fault.
+pub const LAST: u32 = R_PAST_PORT;

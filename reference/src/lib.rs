@@ -1,0 +1,27 @@
+//! A second emulator of the NEC uPD17132, written from the papers alone.
+//!
+//! "Document 01" below is the scope paper; "000", "004" and "001" are the
+//! source manuals in the order in which they decide.
+
+#![forbid(unsafe_code)]
+
+mod alu;
+mod execute;
+pub mod fault;
+pub mod isa;
+pub mod machine;
+mod memory;
+pub mod station;
+pub mod step;
+pub mod transcript;
+pub mod verify;
+
+pub use isa::{decode, encode, Instruction};
+pub use machine::{Input, Machine};
+pub use station::Station;
+pub use step::{run, step, Answer, Report};
+pub use transcript::transcript;
+pub use verify::{verify, Verdict};
+
+#[cfg(feature = "faults")]
+pub use fault::{set_fault, FAULT};

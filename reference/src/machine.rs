@@ -1,0 +1,127 @@
+//! The machine's state and its inputs (document 01, "The machine's record").
+
+/// The machine's state. Document 01 calls it the record.
+///
+/// Every field holds plain bytes or words, so that a value out of range can
+/// be held and refused with 1.
+#[derive(Clone, Debug, PartialEq, Eq)]
+pub struct Machine {
+    /// Data memory, 128 nibbles.
+    pub cells: [u8; 128],
+    /// Program counter, 10 bits.
+    pub pc: u16,
+    /// Address stack; place 0 is the first to be opened, closed places are 0.
+    pub stack: [u16; 5],
+    /// Open stack levels, 0 to 5.
+    pub levels: u8,
+    /// 1: the next word is skipped ("skip pending").
+    pub skip: u8,
+    /// 1: the machine stands by after HALT or STOP ("standing").
+    pub standby: u8,
+}
+
+/// What the board gives to a step: document 01's input record.
+#[derive(Clone, Copy, Debug, Default, PartialEq, Eq)]
+pub struct Input {
+    /// Pin nibbles, P0A to P0E.
+    pub pins: [u8; 5],
+    /// Direction nibbles in that order: 0 reads the pin, 1 the stored bit.
+    pub directions: [u8; 5],
+    /// 1 releases a machine that stands by.
+    pub release: u8,
+}
+
+/// Document 01: each register address and flag bit is named once.
+impl Machine {
+    /// First cell of the data buffer, DBF3.
+    pub const DBF3: u8 = 0x0C;
+    pub const P0E: u8 = 0x6F;
+    pub const P0A: u8 = 0x70;
+    pub const P0D: u8 = 0x73;
+    pub const AR3: u8 = 0x74;
+    pub const AR2: u8 = 0x75;
+    pub const AR1: u8 = 0x76;
+    pub const AR0: u8 = 0x77;
+    pub const WR: u8 = 0x78;
+    pub const BANK: u8 = 0x79;
+    /// Also MPH.
+    pub const IXH: u8 = 0x7A;
+    /// Also MPL.
+    pub const IXM: u8 = 0x7B;
+    pub const IXL: u8 = 0x7C;
+    pub const RPH: u8 = 0x7D;
+    pub const RPL: u8 = 0x7E;
+    pub const PSW: u8 = 0x7F;
+
+    /// Flags of PSW.
+    pub const CMP: u8 = 8;
+    pub const CY: u8 = 4;
+    pub const Z: u8 = 2;
+    pub const IXE: u8 = 1;
+    /// Flag of RPL.
+    pub const BCD: u8 = 1;
+    /// Flag of IXH.
+    pub const MPE: u8 = 8;
+
+    /// All zeros and no mark.
+    pub fn reset() -> Machine {
+        Machine { cells: [0; 128], pc: 0, stack: [0; 5], levels: 0, skip: 0, standby: 0 }
+    }
+
+    /// Is the state in range? If not, refusal 1.
+    pub fn in_range(&self) -> bool {
+        // An OR over all cells, with no early end, is the quick way.
+        let stray = (self.cells.iter().zip(WRITABLE.iter())).fold(0, |s, (c, w)| s | (c & !w));
+        stray == 0
+            && self.pc <= LAST_ADDRESS
+            && self.levels <= 5
+            && self.stack_in_range()
+            && self.skip <= 1
+            && self.standby <= 1
+    }
+
+    /// Open places hold addresses, closed places hold 0.
+    fn stack_in_range(&self) -> bool {
+        let open = usize::from(self.levels);
+        self.stack.iter().enumerate().all(|(place, &address)| {
+            if place < open {
+                address <= LAST_ADDRESS
+            } else {
+                address == 0
+            }
+        })
+    }
+}
+
+impl Input {
+    /// Are the inputs in range? If not, refusal 1.
+    pub fn in_range(&self) -> bool {
+        self.pins.iter().all(|&pin| pin <= 15)
+            && self.directions.iter().all(|&direction| direction <= 15)
+            && self.release <= 1
+    }
+}
+
+/// The highest ROM address; PC and AR count to it and go on at 0.
+pub const LAST_ADDRESS: u16 = 0x3FF;
+
+/// The most words a ROM can have.
+pub const ROM_WORDS: usize = 1024;
+
+/// A ROM of 1 to 1,024 words. If not, refusal 1.
+pub fn rom_in_range(rom: &[u16]) -> bool {
+    (1..=ROM_WORDS).contains(&rom.len())
+}
+
+/// The bits of each cell that can be 1; the others are fixed at 0.
+pub const WRITABLE: [u8; 128] = {
+    let mut bits = [0xF; 128];
+    bits[Machine::P0E as usize] = 0x3;
+    bits[Machine::AR3 as usize] = 0;
+    bits[Machine::AR2 as usize] = 0x3;
+    bits[Machine::BANK as usize] = 0;
+    bits[Machine::IXH as usize] = 0x8;
+    bits[Machine::IXM as usize] = 0x7;
+    bits[Machine::RPH as usize] = 0;
+    bits
+};

@@ -1,0 +1,122 @@
+//! A single step and a counted run (document 01, "Results" and "Refusal
+//! numbers"; source 000, chapters 3, 6 and 18).
+
+use crate::execute::following;
+use crate::fault::{self, fault};
+use crate::isa::{decode, unsupported};
+use crate::machine::{rom_in_range, Input, Machine};
+
+/// What a step answers.
+#[derive(Clone, Copy, Debug, PartialEq, Eq)]
+pub enum Answer {
+    /// The step is completed.
+    Done,
+    /// The machine stays in standby: document 01's answer "standing".
+    Standby,
+    /// Refused with this number; the machine is as it came.
+    Refused(u8),
+}
+
+/// What a run reports.
+#[derive(Clone, Copy, Debug, PartialEq, Eq)]
+pub struct Report {
+    /// Completed steps.
+    pub steps: u32,
+    /// The refusal that ended the run, or 0.
+    pub refusal: u8,
+}
+
+/// The largest budget of a run.
+pub const MAX_BUDGET: u32 = 65_535;
+
+/// One step.
+pub fn step(rom: &[u16], machine: &mut Machine, input: &Input) -> Answer {
+    if !all_in_range(rom, machine, input) {
+        return Answer::Refused(1);
+    }
+    if stays_standing(machine, input) {
+        return Answer::Standby;
+    }
+    let stood = machine.standby;
+    machine.standby = 0;
+    match advance(rom, machine, input) {
+        Ok(()) => Answer::Done,
+        Err(refusal) => {
+            put_back(machine, stood);
+            Answer::Refused(refusal)
+        }
+    }
+}
+
+/// At most `budget` steps with one input. The ranges are tested once: a step
+/// keeps the machine in range.
+pub fn run(rom: &[u16], machine: &mut Machine, input: &Input, budget: u32) -> Report {
+    if budget > MAX_BUDGET || !all_in_range(rom, machine, input) {
+        return Report { steps: 0, refusal: 1 };
+    }
+    if budget == 0 {
+        return Report { steps: 0, refusal: 0 };
+    }
+    if stays_standing(machine, input) {
+        let steps = u32::from(fault(fault::STANDBY_COUNTED));
+        return Report { steps, refusal: 0 };
+    }
+    let stood = machine.standby;
+    machine.standby = 0;
+    let mut steps = 0;
+    while steps < budget && machine.standby == 0 {
+        if let Err(refusal) = advance(rom, machine, input) {
+            if steps == 0 {
+                put_back(machine, stood);
+            }
+            return Report { steps, refusal };
+        }
+        steps += 1;
+    }
+    Report { steps, refusal: 0 }
+}
+
+/// Refusal 1 for a step or run, but for the budget.
+fn all_in_range(rom: &[u16], machine: &Machine, input: &Input) -> bool {
+    machine.in_range() && input.in_range() && rom_in_range(rom)
+}
+
+/// A machine in standby moves on only with release 1.
+fn stays_standing(machine: &Machine, input: &Input) -> bool {
+    machine.standby == 1 && input.release == 0
+}
+
+/// A refused step leaves the standby mark as it came.
+fn put_back(machine: &mut Machine, stood: u8) {
+    if !fault(fault::RELEASE_LOST) {
+        machine.standby = stood;
+    }
+}
+
+/// One step of a machine in range and not in standby.
+#[inline(always)]
+fn advance(rom: &[u16], machine: &mut Machine, input: &Input) -> Result<(), u8> {
+    let Some(&word) = rom.get(usize::from(machine.pc)) else {
+        return Err(2);
+    };
+    if machine.skip != 0 {
+        return skip_word(rom, machine, word);
+    }
+    machine.pc = machine.execute(rom, input, word)?;
+    Ok(())
+}
+
+/// A skipped word is a NOP, undecoded; it meets only refusals 1 and 2.
+#[inline(always)]
+fn skip_word(rom: &[u16], machine: &mut Machine, word: u16) -> Result<(), u8> {
+    if fault(fault::SKIPPED_DECODED) {
+        match decode(word) {
+            None => return Err(3),
+            Some(instruction) if unsupported(instruction) => return Err(4),
+            Some(_) => {}
+        }
+    }
+    machine.skip = 0;
+    machine.pc = following(rom, machine.pc);
+    Ok(())
+}

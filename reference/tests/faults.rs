@@ -1,0 +1,102 @@
+//! Each deliberate fault shows itself in at least one small case, and is
+//! gone again with fault 0. One test, because the switch is one for all.
+
+#![cfg(feature = "faults")]
+
+use reference::fault::*;
+use reference::Instruction::{self, *};
+use reference::{encode, run, station, step, verify, Input, Machine};
+
+const PSW: u8 = Machine::PSW;
+
+fn word(i: Instruction) -> u16 {
+    encode(i).expect("operands fit")
+}
+
+fn rom(program: &[Instruction]) -> Vec<u16> {
+    program.iter().map(|&i| word(i)).collect()
+}
+
+/// What one step makes of a machine with these cells and this input.
+fn one(input: Input, cells: &[(u8, u8)], i: Instruction) -> String {
+    let mut machine = Machine::reset();
+    for &(address, value) in cells {
+        machine.cells[usize::from(address)] = value;
+    }
+    let answer = step(&[word(i)], &mut machine, &input);
+    format!("{answer:?} {machine:?}")
+}
+
+fn quiet(cells: &[(u8, u8)], i: Instruction) -> String {
+    one(Input::default(), cells, i)
+}
+
+/// What one step makes of a machine that `change` sets up.
+fn changed(change: fn(&mut Machine), release: u8, words: &[u16]) -> String {
+    let mut machine = Machine::reset();
+    change(&mut machine);
+    let input = Input { release, ..Input::default() };
+    let answer = step(words, &mut machine, &input);
+    format!("{answer:?} {machine:?}")
+}
+
+fn full(machine: &mut Machine) {
+    machine.levels = 5;
+    machine.stack = [9; 5];
+}
+
+/// A case for each fault.
+fn witness(fault: u32) -> String {
+    let ports = |pin, direction| Input { pins: [pin; 5], directions: [direction; 5], release: 0 };
+    match fault {
+        IX_IN_R => quiet(&[(0x7C, 4), (0x06, 7), (PSW, 1)], Ld { r: 1, m: 2 }),
+        IX_IN_COLUMN => quiet(&[(0x7C, 4), (0x06, 7), (PSW, 1)], MovTo { r: 1, m: 2 }),
+        DECIMAL_NO_BORROW => quiet(&[(0x7E, 1)], SubMN { m: 0x10, n: 10 }),
+        SKIPPED_DECODED => changed(|m| m.skip = 1, 0, &[0x7000]),
+        BRANCH_MASKED => quiet(&[], Br { addr: 1024 }),
+        P0E_HIGH_PINS => one(ports(0xF, 0), &[], Ld { r: 1, m: 0x6F }),
+        DIRECTION_INVERTED => one(ports(0xF, 0), &[], Ld { r: 1, m: 0x70 }),
+        COMPARE_STORES => quiet(&[(PSW, 8)], AddMN { m: 0x10, n: 1 }),
+        COMPARE_SETS_Z => quiet(&[(PSW, 8)], AddMN { m: 0x10, n: 0 }),
+        INC_IX_CLEARS_MPE => quiet(&[(0x7A, 8)], IncIx),
+        MOVT_WITHOUT_LEVEL => changed(full, 0, &[word(Movt)]),
+        STANDBY_COUNTED => {
+            let mut machine = Machine::reset();
+            machine.standby = 1;
+            format!("{:?}", run(&[word(Nop)], &mut machine, &Input::default(), 5))
+        }
+        RETSK_NO_SKIP => changed(|m| m.levels = 1, 0, &[word(Retsk)]),
+        CHECK_NO_RETSK_CLAUSE => {
+            let program = [Call { addr: 3 }, Br { addr: 1 }, Nop, Retsk];
+            format!("{:?}", verify(&rom(&program), &[0, 0, 15, 1]))
+        }
+        STACK_NOT_CLEARED => changed(|m| (m.levels, m.stack[0]) = (1, 9), 0, &[word(Ret)]),
+        PSW_FLAGS_AFTER_STORE => quiet(&[], AddMN { m: PSW, n: 4 }),
+        ZERO_OF_STORED => quiet(&[], AddMN { m: 0x74, n: 1 }),
+        RORC_PSW_CARRY => quiet(&[(0x7E, 14), (PSW, 1)], Rorc { r: 15 }),
+        MPE_ONLY_WITHOUT_IXE => {
+            quiet(&[(0x7A, 8), (0x7B, 1), (0x30, 7), (PSW, 1)], MovTo { r: 1, m: 0x20 })
+        }
+        LEVEL_BEFORE_ADDRESS => changed(full, 0, &[word(Call { addr: 1024 })]),
+        TEST_KEEPS_CMP => quiet(&[(PSW, 8)], Skt { m: 0x10, n: 1 }),
+        RELEASE_LOST => changed(|m| m.standby = 1, 1, &[0x7000]),
+        WRAP_AT_ROM_END => quiet(&[], Nop),
+        CHECK_ODD_ENTRY => format!("{:?}", verify(&rom(&[Br { addr: 0 }, Nop]), &[0, 7])),
+        SHORT_BEFORE_RANGE => format!("{:?}", station::read(&[0, 1, 0, 1, 0, 0, 0, 1, 9])),
+        R_PAST_PORT => one(ports(5, 0), &[(0x7E, 14)], St { m: 0x10, r: 0 }),
+        _ => unreachable!("fault {fault}"),
+    }
+}
+
+#[test]
+fn every_fault_shows() {
+    for fault in 1..=LAST {
+        set_fault(0);
+        let right = witness(fault);
+        set_fault(fault);
+        let wrong = witness(fault);
+        set_fault(0);
+        assert_ne!(right, wrong, "fault {fault}");
+        assert_eq!(right, witness(fault), "fault {fault}");
+    }
+}

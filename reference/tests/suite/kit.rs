@@ -1,0 +1,151 @@
+//! Small tools for the tests.
+
+use reference::Instruction::{self, *};
+use reference::{encode, step, Answer, Input, Machine};
+
+/// Register addresses and flags, short.
+pub const AR3: u8 = Machine::AR3;
+pub const AR2: u8 = Machine::AR2;
+pub const AR1: u8 = Machine::AR1;
+pub const AR0: u8 = Machine::AR0;
+pub const IXH: u8 = Machine::IXH;
+pub const IXM: u8 = Machine::IXM;
+pub const IXL: u8 = Machine::IXL;
+pub const RPL: u8 = Machine::RPL;
+pub const PSW: u8 = Machine::PSW;
+pub const CMP: u8 = Machine::CMP;
+pub const CY: u8 = Machine::CY;
+pub const Z: u8 = Machine::Z;
+pub const IXE: u8 = Machine::IXE;
+
+/// The words of a program.
+pub fn rom(program: &[Instruction]) -> Vec<u16> {
+    program.iter().map(|&i| encode(i).expect("operands fit")).collect()
+}
+
+/// All pins low, all directions in, no release.
+pub fn quiet() -> Input {
+    Input::default()
+}
+
+/// Runs `count` steps, all of which must be completed.
+pub fn go(rom: &[u16], machine: &mut Machine, count: usize) {
+    for n in 0..count {
+        let answer = step(rom, machine, &quiet());
+        assert_eq!(answer, Answer::Done, "step {n} of {count}");
+    }
+}
+
+/// The machine after one pass over a program without jumps, from `machine`.
+pub fn pass(mut machine: Machine, program: &[Instruction]) -> Machine {
+    machine.pc = 0;
+    go(&rom(program), &mut machine, program.len());
+    machine
+}
+
+/// The machine after a program without jumps, from reset.
+pub fn after(program: &[Instruction]) -> Machine {
+    pass(Machine::reset(), program)
+}
+
+/// One instruction on a machine, with an input.
+pub fn with_input(mut machine: Machine, input: &Input, i: Instruction) -> Machine {
+    machine.pc = 0;
+    assert_eq!(step(&rom(&[i]), &mut machine, input), Answer::Done);
+    machine
+}
+
+/// Reset, with these cells set.
+pub fn cells(set: &[(u8, u8)]) -> Machine {
+    let mut machine = Machine::reset();
+    for &(address, value) in set {
+        machine.cells[usize::from(address)] = value;
+    }
+    machine
+}
+
+/// A cell of a machine.
+pub fn at(machine: &Machine, address: u8) -> u8 {
+    machine.cells[usize::from(address)]
+}
+
+/// Runs a program until PC is `stop`, and answers the number of steps.
+pub fn until(rom: &[u16], machine: &mut Machine, stop: u16) -> usize {
+    for n in 0..100_000 {
+        if machine.pc == stop && machine.skip == 0 {
+            return n;
+        }
+        go(rom, machine, 1);
+    }
+    panic!("never at {stop:03X}");
+}
+
+/// MOV m,#n, which stands in most examples.
+pub fn mov(m: u8, n: u8) -> Instruction {
+    MovMN { m, n }
+}
+
+/// Assembler macros SET1 and CLR1 on PSW flags.
+pub fn set(flags: u8) -> Instruction {
+    OrMN { m: PSW, n: flags }
+}
+
+pub fn clear(flags: u8) -> Instruction {
+    AndMN { m: PSW, n: !flags & 0xF }
+}
+
+/// A small generator of numbers, the same in every run.
+pub struct Random(u64);
+
+impl Random {
+    pub fn new(seed: u64) -> Random {
+        Random(seed.wrapping_mul(0x9E37_79B9_7F4A_7C15) | 1)
+    }
+
+    pub fn next(&mut self) -> u64 {
+        self.0 ^= self.0 << 13;
+        self.0 ^= self.0 >> 7;
+        self.0 ^= self.0 << 17;
+        self.0
+    }
+
+    /// A number below `bound`.
+    pub fn below(&mut self, bound: u64) -> u64 {
+        (self.next() >> 11) % bound
+    }
+
+    pub fn nibble(&mut self) -> u8 {
+        self.below(16) as u8
+    }
+
+    pub fn word(&mut self) -> u16 {
+        self.below(65_536) as u16
+    }
+
+    /// An input in range.
+    pub fn input(&mut self) -> Input {
+        let mut input = quiet();
+        for port in 0..5 {
+            input.pins[port] = self.nibble();
+            input.directions[port] = self.nibble();
+        }
+        input.release = self.below(2) as u8;
+        input
+    }
+
+    /// A machine in range.
+    pub fn machine(&mut self) -> Machine {
+        let mut machine = Machine::reset();
+        for (cell, &bits) in machine.cells.iter_mut().zip(&reference::machine::WRITABLE) {
+            *cell = self.nibble() & bits;
+        }
+        machine.pc = self.below(1024) as u16;
+        machine.levels = self.below(6) as u8;
+        for place in 0..usize::from(machine.levels) {
+            machine.stack[place] = self.below(1024) as u16;
+        }
+        machine.skip = u8::from(self.below(8) == 0);
+        machine.standby = u8::from(self.below(8) == 0);
+        machine
+    }
+}

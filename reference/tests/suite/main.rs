@@ -1,0 +1,17 @@
+//! Tests by the numbers of document 01 and the examples of the manuals.
+
+mod addressing;
+mod arithmetic;
+mod check;
+mod files;
+mod kit;
+mod logic;
+mod numbers;
+mod ports;
+mod refusals;
+mod skips;
+mod stack;
+mod standby;
+mod text;
+mod walks;
+mod words;
