@@ -1,0 +1,174 @@
+-- A step on a ROM whose rules hold: it is not refused, and control stays on its path.
+-- Assumes nothing.
+use mathlib.Core.Path.{_≡_, _∙_, ap, refl, sym, subst}
+use mathlib.Core.Bool.{Bool, true, false, _&&_, cond}
+use mathlib.Core.List.{List}
+use Prim.Native.Nat.{ℕ, _^_, _<_, _≤_}
+use native.Mathlib.Omega.{arith}
+use borrow.Author.Tests.{lt-leb, eqb-true}
+use lib.Dec.{eqb, leb}
+use lib.ListN.{getD, length}
+use Rattle.isa.specs.Answers.{Decoding, is, refused as undecoded}
+use Rattle.isa.specs.Decode.{decodeOf}
+use Rattle.isa.specs.declared.FixedOp.the-variants.{IncAr, IncIx, Movt, PushAr, PopAr, BrAr, CallAr, Ret, Retsk, Reti, Ei, Di, Nop}
+use Rattle.isa.specs.declared.Instruction.{Instruction}
+use Rattle.isa.specs.declared.Instruction.the-variants.{AluRegister, AluImmediate, Skip, Rorc, Ld, St, MovToIndirect, MovFromIndirect, MovImmediate, Peek, Poke, Get, Put, Br, Call, Stop, Halt, Fixed}
+use Rattle.memory.specs.Chip.{Chip}
+use Rattle.memory.specs.Range.{cellsInRange}
+use Rattle.memory.specs.Registers.{arOf}
+use Rattle.cpu.specs.Answers.{Reply, done, inStandby, refused, refusalOf, Step}
+use Rattle.cpu.specs.Control.{Transfer, controlOf, isStandby, marked, onwards}
+use Rattle.cpu.specs.Data.{skipsOf}
+use Rattle.cpu.specs.Flow.{Flow, table, barred, flowOf}
+use Rattle.cpu.specs.Parts.{cellsOf, withCells, withControl}
+use Rattle.cpu.specs.Ranges.{places, machineInRange, allInRange}
+use Rattle.cpu.specs.Step.{completed, denied, woken, leaving, dataOf, inBase, runnable, runsOf, pastTable, writtenOf, settleOf, executeOf, passOver, advanceOf, stepOf}
+use Rattle.cpu.specs.declared.Control.{Control}
+use Rattle.cpu.specs.declared.Input.{Input}
+use Rattle.cpu.specs.declared.Machine.{Machine}
+use Rattle.cpu.proofs.Inside.{both, machine-parts}
+use Rattle.cpu.proofs.Phases.{stays, passed-over, executed}
+use Rattle.cpu.proofs.Turns.{step-advances}
+use Rattle.step_laws.specs.FlowLaw.{flowControl}
+use Rattle.step_laws.proofs.Flows.{flow-law}
+use Rattle.verifier.specs.Calls.{Tally, counted, afterReply, stepTally}
+use Rattle.verifier.specs.Rules.{decodedFlow, entryAt, flowAt, table3, EveryRule}
+use Rattle.verifier.proofs.Paths.{OnPath, Kept, follows}
+use Rattle.verifier.proofs.Ruled.{Stands, third, fourth, fifth, sixth}
+
+-- only MOVT refers to a table
+no-table : (rom : List ℕ) (ar : ℕ) (i : Instruction) → (flowOf i ≡ table → leb (length rom) ar ≡ false) → pastTable rom ar i ≡ false
+unfolding pastTable
+no-table rom ar (AluRegister op r m) h = refl
+no-table rom ar (AluImmediate op m n4) h = refl
+no-table rom ar (Skip op m n4) h = refl
+no-table rom ar (Rorc r) h = refl
+no-table rom ar (Ld r m) h = refl
+no-table rom ar (St m r) h = refl
+no-table rom ar (MovToIndirect r m) h = refl
+no-table rom ar (MovFromIndirect m r) h = refl
+no-table rom ar (MovImmediate m n4) h = refl
+no-table rom ar (Peek rf) h = refl
+no-table rom ar (Poke rf) h = refl
+no-table rom ar (Get p) h = refl
+no-table rom ar (Put p) h = refl
+no-table rom ar (Br addr) h = refl
+no-table rom ar (Call addr) h = refl
+no-table rom ar (Stop s) h = refl
+no-table rom ar (Halt s) h = refl
+no-table rom ar (Fixed IncAr) h = refl
+no-table rom ar (Fixed IncIx) h = refl
+no-table rom ar (Fixed Movt) h = h refl
+no-table rom ar (Fixed PushAr) h = refl
+no-table rom ar (Fixed PopAr) h = refl
+no-table rom ar (Fixed BrAr) h = refl
+no-table rom ar (Fixed CallAr) h = refl
+no-table rom ar (Fixed Ret) h = refl
+no-table rom ar (Fixed Retsk) h = refl
+no-table rom ar (Fixed Reti) h = refl
+no-table rom ar (Fixed Ei) h = refl
+no-table rom ar (Fixed Di) h = refl
+no-table rom ar (Fixed Nop) h = refl
+
+-- a word that is not barred is an instruction of the base, and has its flow
+plain-word : (i : Instruction) (b : Bool) → (decodedFlow (cond b (is i) (undecoded 4)) ≡ barred → ⊥) → decodedFlow (cond b (is i) (undecoded 4)) ≡ flowOf i
+plain-word i true n = refl
+plain-word i false n = absurd (n refl)
+
+word-flow : (d : Decoding) → (decodedFlow (runnable d) ≡ barred → ⊥) → (i : Instruction) × ((d ≡ is i) × (decodedFlow (runnable d) ≡ flowOf i))
+unfolding runnable
+word-flow (is i) n = (i, (refl, plain-word i (inBase i) n))
+word-flow (undecoded k) n = absurd (n refl)
+
+module _ (chip : Chip) (small : chip .levels ≤ places) (some : 0 < chip .levels)
+    (fits : (cells : List ℕ) → cellsInRange chip cells ≡ true → arOf cells < 2 ^ 10)
+    (rom depths : List ℕ) (short : length rom ≤ 2 ^ chip .pcBits) (every : EveryRule chip rom depths) (input : Input) where
+  abbrev Path : Control → Tally → Type 0
+  Path c t = OnPath chip small some rom depths short every c t
+
+  -- a step that is not refused and keeps control on its path
+  pub record Fair (skipped : Bool) (f : Flow) (t : Tally) (s : Step) : Type 0 where
+    pub answered : refusalOf (s .reply) ≡ 0
+    pub path : Path (s .machine .control) (afterReply (s .reply) skipped f t)
+
+  module _ (m : Machine) (t : Tally) (r : machineInRange chip m ≡ true) (p : Path (m .control) t) where
+    abbrev c : Control
+    c = m .control
+
+    abbrev f : Flow
+    f = flowAt chip rom depths (c .pc)
+
+    abbrev e : ℕ
+    e = entryAt chip rom depths (c .pc)
+
+    r3 : table3 chip rom depths f e ≡ true
+    r3 = third chip rom depths every (c .pc) (c .levels) (p .here)
+
+    not-barred : f ≡ barred → ⊥
+    not-barred q =
+        let z : table3 chip rom depths barred e ≡ true = subst (λ (x : Flow). table3 chip rom depths x e ≡ true) q r3 in
+        let n : _≡_ {A = ℕ} 0 1 = cc in
+        omega arith
+
+    in-table : f ≡ table → leb (length rom) (arOf (cellsOf m)) ≡ false
+    in-table q =
+        let z : table3 chip rom depths table e ≡ true = subst (λ (x : Flow). table3 chip rom depths x e ≡ true) q r3 in
+        let n : length rom ≡ 2 ^ 10 = eqb-true (length rom) (2 ^ 10) (both (eqb (length rom) (2 ^ 10)) _ z .0) in
+        lt-leb (length rom) (arOf (cellsOf m)) (rw n (fits (cellsOf m) (machine-parts chip m r .0)))
+
+    -- the same control without the standby mark
+    wakes : Path (marked (c .skip) false c) t
+    wakes = record { places = p .places; here = p .here; opened = p .opened; skipping = p .skipping; stacked = p .stacked }
+
+    -- an instruction that is due
+    runs : (i : Instruction) → c .skip ≡ false → f ≡ flowOf i → Fair false f t (executeOf chip rom input i (woken m))
+    unfolding executeOf
+    runs i calm q =
+        let b : Bool = skipsOf chip (dataOf (woken m) input) i in
+        let k = follows chip small some rom depths short every (marked (c .skip) false c) t wakes calm f refl b r3
+        (fourth chip rom depths every (c .pc) (c .levels) (p .here)) (fifth chip rom depths every (c .pc) (c .levels) (p .here))
+        (sixth chip rom depths every (c .pc) (c .levels) (p .here)) in
+        let law : flowControl chip f b (marked (c .skip) false c) ≡ controlOf chip i b (arOf (cellsOf m)) (marked (c .skip) false c)
+        = ap (λ (x : Flow). flowControl chip x b (marked (c .skip) false c)) q
+        ∙ sym (flow-law chip i b (arOf (cellsOf m)) (marked (c .skip) false c) (λ (x : flowOf i ≡ barred). not-barred (q ∙ x))) in
+        let x : Transfer = controlOf chip i b (arOf (cellsOf m)) (marked (c .skip) false c) in
+        let k' : Kept chip small some rom depths short every x (counted f t) = subst (λ (y : Transfer). Kept chip small some rom depths short every y (counted f t)) law k in
+        rw (k' .unrefused, no-table rom (arOf (cellsOf m)) i (λ (y : flowOf i ≡ table). in-table (q ∙ y)))
+        (record { answered = refl; path = k' .path })
+
+    -- what a refusal would leave does not matter: there is none
+    leaves : (sk : Bool) (g : Flow) (s : Step) → Fair sk g t s → (r : Reply) → s .reply ≡ r → Fair sk g t (leaving m (s .machine) r)
+    leaves sk g s h done q = record { answered = refl; path = subst (λ (y : Reply). Path (s .machine .control) (afterReply y sk g t)) q (h .path) }
+    leaves sk g s h inStandby q = record { answered = refl; path = subst (λ (y : Reply). Path (s .machine .control) (afterReply y sk g t)) q (h .path) }
+    leaves sk g s h (refused n) q =
+        record { answered = sym (ap refusalOf q) ∙ h .answered; path = p }
+
+    over : c .skip ≡ true → Fair true f t (passOver chip rom input (woken m))
+    over s = record {
+      answered = refl;
+      path = record {
+        places = p .places;
+        here = p .skipping s;
+        opened = p .opened;
+        skipping = λ (x : false ≡ true). absurd (let z : _≡_ {A = ℕ} 0 1 = cc in omega arith);
+        stacked = p .stacked;
+      };
+    }
+
+    inside : leb (length rom) (c .pc) ≡ false
+    inside = lt-leb (length rom) (c .pc) (p .here .inside)
+
+    awake : (skip : Bool) → c .skip ≡ skip → (isStandby c && eqb (input .release) 0) ≡ false → Fair skip f t (advanceOf chip rom input m)
+    awake true s a = subst (Fair true f t) (passed-over chip rom input m a inside s) (over s)
+    awake false s a =
+        let w = word-flow (decodeOf (getD rom (c .pc) 0)) not-barred in
+        let x : Step = executeOf chip rom input (w .0) (woken m) in
+        subst (Fair false f t) (executed chip rom input m a inside s (w .0) x (w .1 .0) refl)
+        (leaves false f x (runs (w .0) s (w .1 .1)) (x .reply) refl)
+
+    advanced : (b : Bool) → (isStandby c && eqb (input .release) 0) ≡ b → Fair (c .skip) f t (advanceOf chip rom input m)
+    advanced true a = subst (Fair (c .skip) f t) (stays chip rom input m a) (record { answered = refl; path = p })
+    advanced false a = awake (c .skip) refl a
+
+    pub stepped : allInRange chip rom m input ≡ true → Fair (c .skip) f t (stepOf chip rom input m)
+    stepped a = rw (step-advances chip rom input m a) (advanced (isStandby c && eqb (input .release) 0) refl)

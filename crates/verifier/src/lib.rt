@@ -1,0 +1,1 @@
+// The level sheet check.
