@@ -1,3 +1,4 @@
 pub mod Every
 pub mod Arms
+pub mod First
 pub mod Wrap

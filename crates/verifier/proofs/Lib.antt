@@ -3,3 +3,4 @@ pub mod Ruled
 pub mod Paths
 pub mod Steps
 pub mod Safety
+pub mod Exact

@@ -2,3 +2,4 @@ pub mod Entry
 pub mod Rules
 pub mod Calls
 pub mod Safe
+pub mod Verdict

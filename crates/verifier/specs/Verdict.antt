@@ -1,0 +1,48 @@
+-- What the check answers: document 01, "A failed check names the lowest word that breaks a rule, and its lowest rule".
+-- Assumes nothing.
+use mathlib.Core.Path.{_≡_}
+use mathlib.Core.Bool.{Bool, true, cond}
+use mathlib.Core.List.{List}
+use mathlib.Core.Logic.{_↔_}
+use Prim.Native.Nat.{ℕ, suc}
+use lib.Dec.{eqb, ltb}
+use lib.ListN.{length}
+use Rattle.laws.specs.Every.{every}
+use Rattle.laws.specs.First.{firstFalse}
+use Rattle.memory.specs.Chip.{Chip}
+use Rattle.cpu.specs.Ranges.{romInRange}
+use Rattle.verifier.specs.Rules.{ruleHolds, EveryRule}
+
+pub data Answer : Type 0 where
+  pass : Answer
+  -- a word and a rule
+  fail : ℕ → ℕ → Answer
+  refused : ℕ → Answer
+
+module _ (chip : Chip) (rom depths : List ℕ) where
+  -- every rule holds at a word
+  abbrev pub wordHolds : ℕ → Bool
+  wordHolds w = every (λ (k : ℕ). ruleHolds chip rom depths w (suc k)) 6
+
+  abbrev pub lowestRule : ℕ → ℕ
+  lowestRule w = suc (firstFalse (λ (k : ℕ). ruleHolds chip rom depths w (suc k)) 6)
+
+  abbrev pub lowestWord : ℕ
+  lowestWord = firstFalse wordHolds (length rom)
+
+  unfoldable pub ruled : Answer
+  ruled = cond (ltb lowestWord (length rom)) (fail lowestWord (lowestRule lowestWord)) pass
+
+  -- refusal 1, for the ROM's length alone; then 9, sheet length differs from the ROM's; then the rules
+  unfoldable pub verifyOf : Answer
+  verifyOf = cond (romInRange chip rom) (cond (eqb (length depths) (length rom)) ruled (refused 9)) (refused 1)
+
+  -- no refusal, and every rule holds at every word
+  pub record Clear : Type 0 where
+    pub whole : romInRange chip rom ≡ true
+    pub fitting : length depths ≡ length rom
+    pub rules : EveryRule chip rom depths
+
+  -- "The check passes a ROM with its sheet exactly when it has no refusal for them and the clearance rules hold"
+  abbrev pub Exactly : Type 0
+  Exactly = (verifyOf ≡ pass) ↔ Clear
