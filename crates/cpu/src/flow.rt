@@ -79,13 +79,13 @@ pub fn call(stack: &mut [u16; 5], regs: Regs, to: u16) -> Moved
 }
 
 // CALL: the target is tried before the stack.
-pub fn call_in_reach(stack: &mut [u16; 5], regs: Regs, to: u16) -> Moved
-    ensures { λ r. ⌜ transferOf (now (stack .exit)) regs r ≡ inReach upd17132 to (withStack (now (stack .entry)) regs) (callOf upd17132 to (withStack (now (stack .entry)) regs)) ⌝ }
+pub fn call_in_reach(stack: &mut [u16; 5], regs: Regs, target: u16) -> Moved
+    ensures { λ r. ⌜ transferOf (now (stack .exit)) regs r ≡ inReach upd17132 target (withStack (now (stack .entry)) regs) (callOf upd17132 target (withStack (now (stack .entry)) regs)) ⌝ }
 {
-    if 1024 <= to {
+    if 1024 <= target {
         return Moved::Refused(Refusal::BadTarget);
     }
-    call(stack, regs, to)
+    call(stack, regs, target)
 }
 
 // RET, and RETSK, which sets the skip mark.
