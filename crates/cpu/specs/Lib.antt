@@ -6,4 +6,5 @@ pub mod Control
 pub mod Data
 pub mod Step
 pub mod Run
+pub mod InPlace
 pub mod Inside

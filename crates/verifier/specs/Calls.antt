@@ -10,6 +10,7 @@ use Rattle.memory.specs.Chip.{Chip}
 use Rattle.cpu.specs.Answers.{Reply, done, inStandby, refused, refusalOf, Step, Run}
 use Rattle.cpu.specs.Control.{isStandby}
 use Rattle.cpu.specs.Flow.{Flow, onward, skips, branch, call, return, returnSkip, table, waits, barred}
+use Rattle.cpu.specs.InPlace.{stepInPlaceOf, runInPlaceOf}
 use Rattle.cpu.specs.Ranges.{allInRange, inputInRange, budgetInRange}
 use Rattle.cpu.specs.Run.{runOf}
 use Rattle.cpu.specs.Step.{stepOf}
@@ -72,14 +73,14 @@ module _ (chip : Chip) (rom : List ℕ) where
   abbrev pub refusalAt : Call → Machine → ℕ
   refusalAt (step i) m = refusalOf ((stepOf chip rom i m) .reply)
   refusalAt (run i budget) m = (runOf chip rom i budget m) .refusal
-  refusalAt (stepInPlace i) m = refusalOf ((stepOf chip rom i m) .reply)
-  refusalAt (runInPlace i budget) m = (runOf chip rom i budget m) .refusal
+  refusalAt (stepInPlace i) m = refusalOf ((stepInPlaceOf chip rom i m) .reply)
+  refusalAt (runInPlace i budget) m = (runInPlaceOf chip rom i budget m) .refusal
 
   abbrev pub leftBy : Call → Machine → Machine
   leftBy (step i) m = (stepOf chip rom i m) .machine
   leftBy (run i budget) m = (runOf chip rom i budget m) .machine
-  leftBy (stepInPlace i) m = (stepOf chip rom i m) .machine
-  leftBy (runInPlace i budget) m = (runOf chip rom i budget m) .machine
+  leftBy (stepInPlace i) m = (stepInPlaceOf chip rom i m) .machine
+  leftBy (runInPlace i budget) m = (runInPlaceOf chip rom i budget m) .machine
 
   -- the tally after so many steps of a run, which ends as runFrom does
   unfoldable pub runTally : Input → ℕ → Machine → Tally → Tally

@@ -1,0 +1,19 @@
+-- The forms that work on a record lent by the host: document 01, "after the by-value core, a thin in-place step on the host's
+-- record". They answer what the forms by value answer, and leave in the lent record what those return: unchanged where the
+-- step is refused, and after a run its completed steps.
+-- Assumes nothing.
+use mathlib.Core.List.{List}
+use Prim.Native.Nat.{ℕ}
+use Rattle.memory.specs.Chip.{Chip}
+use Rattle.cpu.specs.Answers.{Step, Run}
+use Rattle.cpu.specs.Run.{runOf}
+use Rattle.cpu.specs.Step.{stepOf}
+use Rattle.cpu.specs.declared.Input.{Input}
+use Rattle.cpu.specs.declared.Machine.{Machine}
+
+module _ (chip : Chip) (rom : List ℕ) (input : Input) where
+  abbrev pub stepInPlaceOf : Machine → Step
+  stepInPlaceOf m = stepOf chip rom input m
+
+  abbrev pub runInPlaceOf : ℕ → Machine → Run
+  runInPlaceOf budget m = runOf chip rom input budget m
