@@ -1,7 +1,6 @@
 pub mod Answers
 pub mod Parts
 pub mod Ranges
-pub mod Flow
 pub mod Control
 pub mod Data
 pub mod Step

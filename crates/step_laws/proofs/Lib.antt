@@ -1,5 +1,4 @@
 pub mod Numbers
-pub mod Flows
 pub mod Written
 pub mod Ranges
 pub mod Runs

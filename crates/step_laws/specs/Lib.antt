@@ -1,6 +1,5 @@
 pub mod RangeLaws
 pub mod RunLaws
-pub mod FlowLaw
 pub mod ReadLaw
 pub mod WrittenCells
 pub mod Cases

@@ -2,13 +2,21 @@
 -- Assumes nothing.
 use mathlib.Core.Path.{_≡_, _∙_, ap, refl, sym}
 use mathlib.Core.Bool.{Bool, true, false, _&&_}
-use Prim.Native.Nat.{ℕ, suc, _-_, _≤_, _<_}
+use Prim.Native.Nat.{ℕ, suc, _+_, _-_, _≤_, _<_}
 use native.Mathlib.Omega.{arith}
 use borrow.Author.Tests.{leb-true, le-leb, eqb-true, eq-eqb}
 use lib.Dec.{eqb, leb}
-use Rattle.memory.specs.Chip.{Chip}
+use Rattle.memory.specs.Chip.{Chip, upd17132}
 use Rattle.cpu.proofs.Inside.{both}
 use Rattle.verifier.specs.Entry.{reached, holds, covers, shares, raised, atMost, atLeast}
+
+pub and-true : (a : Bool) → (a && true) ≡ a
+and-true true = refl
+and-true false = refl
+
+and-false : (a : Bool) → (a && false) ≡ false
+and-false true = refl
+and-false false = refl
 
 module _ (chip : Chip) where
   -- an entry that holds a depth is reached, and is that depth
@@ -36,7 +44,7 @@ module _ (chip : Chip) where
   unfolding atMost raised
   raised-holds e d z a h =
       let b : e ≤ chip .levels - 1 = leb-true e (chip .levels - 1) a in
-      holding (suc e) (suc d) (omega arith) (ap suc (held e d h .1))
+      holding (e + 1) (suc d) (omega arith) (omega (arith, held e d h .1))
 
   pub shares-both : (e f d : ℕ) → holds chip e d ≡ true → holds chip f d ≡ true → shares chip e f ≡ true
   unfolding shares reached
@@ -49,3 +57,12 @@ module _ (chip : Chip) where
   pub least : (k e d : ℕ) → atLeast k e ≡ true → holds chip e d ≡ true → k ≤ d
   unfolding atLeast
   least k e d a h = omega (arith, leb-true k e a, held e d h .1)
+
+-- level 0 is reached
+level-zero-at : (e : ℕ) (b : Bool) → eqb e 0 ≡ b → b ≡ (leb e 5 && b)
+level-zero-at e true q = sym (rw (le-leb e 5 (omega (arith, eqb-true e 0 q))) refl)
+level-zero-at e false q = sym (and-false (leb e 5))
+
+pub level-zero : (e : ℕ) → eqb e 0 ≡ holds upd17132 e 0
+unfolding holds reached
+level-zero e = level-zero-at e (eqb e 0) refl

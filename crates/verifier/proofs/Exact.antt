@@ -23,10 +23,10 @@ module _ (chip : Chip) (rom depths : List ℕ) where
   W w = wordHolds chip rom depths w
 
   -- a word at which each rule holds
-  word-holds : (w : ℕ) → ((r : ℕ) → 1 ≤ r → r ≤ 6 → ruleHolds chip rom depths w r ≡ true) → W w ≡ true
+  pub word-holds : (w : ℕ) → ((r : ℕ) → 1 ≤ r → r ≤ 6 → ruleHolds chip rom depths w r ≡ true) → W w ≡ true
   word-holds w h = holds (every-of (λ (k : ℕ). ruleHolds chip rom depths w (suc k)) 6 (λ k l. passed (h (suc k) (omega arith) (omega arith))))
 
-  rule-holds : (w r : ℕ) → W w ≡ true → 1 ≤ r → r ≤ 6 → ruleHolds chip rom depths w r ≡ true
+  pub rule-holds : (w r : ℕ) → W w ≡ true → 1 ≤ r → r ≤ 6 → ruleHolds chip rom depths w r ≡ true
   rule-holds w r e a b =
       let q : suc (r - 1) ≡ r = omega arith in
       subst (λ (x : ℕ). ruleHolds chip rom depths w x ≡ true) q
@@ -59,7 +59,7 @@ module _ (chip : Chip) (rom depths : List ℕ) where
   passes true false c w r p q s e = absurd (let z : _≡_ {A = ℕ} 0 1 = cc in omega arith)
   passes false b c w r p q s e = absurd (let z : _≡_ {A = ℕ} 0 1 = cc in omega arith)
 
-  not-true : (b : Bool) → (b ≡ true → ⊥) → b ≡ false
+  pub not-true : (b : Bool) → (b ≡ true → ⊥) → b ≡ false
   not-true true n = absurd (n refl)
   not-true false n = refl
 

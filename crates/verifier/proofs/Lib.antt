@@ -1,6 +1,11 @@
+pub mod Lists
 pub mod Entries
+pub mod Marks
 pub mod Ruled
 pub mod Paths
 pub mod Steps
 pub mod Safety
 pub mod Exact
+pub mod Scan
+pub mod Promised
+pub mod Verdicts

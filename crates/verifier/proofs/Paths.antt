@@ -14,16 +14,17 @@ use lib.ListN.{getD, set, length, length-set}
 use lib.Seq.{getD-set-same, getD-set-other}
 use Rattle.memory.specs.Chip.{Chip}
 use Rattle.cpu.specs.Control.{Transfer, goes, denies, jump, marked, push, pop, top, next as nextPc, onwards, unlessFull, unlessEmpty, inReach, branchOf, callOf, returnOf, tableOf, standbyOf, onwardOf}
-use Rattle.cpu.specs.Flow.{Flow, onward, skips, branch, call, return, returnSkip, table, waits, barred}
 use Rattle.cpu.specs.Ranges.{places}
 use Rattle.cpu.specs.declared.Control.{Control}
 use Rattle.cpu.proofs.Inside.{both}
-use Rattle.step_laws.specs.FlowLaw.{flowControl}
+use Rattle.flow.specs.FlowLaw.{flowControl}
+use Rattle.flow.specs.declared.Flow.{Flow}
+use Rattle.flow.specs.declared.Flow.the-variants.{Onward, Skips, Branches, Calls, Returns, ReturnsSkip, ReadsTable, StandsBy, Barred}
 use Rattle.verifier.specs.Calls.{Tally, counted}
 use Rattle.verifier.specs.Entry.{holds, raised, atMost, atLeast}
-use Rattle.verifier.specs.Rules.{Ask, entryAt, flowAt, next, allMet, skipReturns, table3, asks4, asks5, call5, return6, EveryRule}
+use Rattle.verifier.specs.Rules.{Ask, entryAt, flowAt, next, allMet, skipReturns, rule3, rule4, asks5, rule5, rule6, EveryRule}
 use Rattle.verifier.proofs.Entries.{raised-holds, most, least}
-use Rattle.verifier.proofs.Ruled.{Stands, asked, first-met, rest-met, found}
+use Rattle.verifier.proofs.Ruled.{Stands, table-free, asked, first-met, rest-met, found}
 
 module _ (chip : Chip) (small : chip .levels ≤ places) (some : 0 < chip .levels) (rom depths : List ℕ) (short : length rom ≤ 2 ^ chip .pcBits)
     (every : EveryRule chip rom depths) where
@@ -31,18 +32,18 @@ module _ (chip : Chip) (small : chip .levels ≤ places) (some : 0 < chip .level
   At w d = Stands chip rom depths every w d
 
   abbrev E : ℕ → ℕ
-  E w = entryAt chip rom depths w
+  E w = entryAt depths w
 
   abbrev F : ℕ → Flow
-  F w = flowAt chip rom depths w
+  F w = flowAt rom w
 
   abbrev N : ℕ → ℕ
-  N w = next chip rom depths w
+  N w = next chip w
 
   -- a stacked address: the word to go back to, and where a RETSK at the level above may come, the one after it
   pub record Back (a k : ℕ) : Type 0 where
     pub plain : At a k
-    pub skipped : (w : ℕ) → At w (suc k) → F w ≡ returnSkip → At (N a) k
+    pub skipped : (w : ℕ) → At w (suc k) → F w ≡ ReturnsSkip → At (N a) k
 
   pub record OnPath (c : Control) (t : Tally) : Type 0 where
     pub places : length (c .stack) ≡ places
@@ -103,7 +104,7 @@ module _ (chip : Chip) (small : chip .levels ≤ places) (some : 0 < chip .level
         rw (getD-set-other (c .stack) (c .levels) k (N pc) 0 n) (p .stacked k (omega arith))
 
     calls : (to : ℕ) → atMost (chip .levels - 1) e ≡ true → At to (suc (c .levels)) → Back (N pc) (c .levels)
-        → Kept (inReach chip to c (callOf chip to c)) (counted (call to) t)
+        → Kept (inReach chip to c (callOf chip to c)) (counted (Calls to) t)
     unfolding callOf
     calls to m a b =
         let l : c .levels ≤ chip .levels - 1 = most chip (chip .levels - 1) e (c .levels) m (p .here .level) in
@@ -125,7 +126,7 @@ module _ (chip : Chip) (small : chip .levels ≤ places) (some : 0 < chip .level
     popped k h = rw (getD-set-other (c .stack) (c .levels - 1) k 0 0 (λ (x : k ≡ c .levels - 1). omega arith)) (p .stacked k (omega arith))
 
     returned : (skip : Bool) (f : Flow) → (t' : Tally) → t' .calls ≡ t .calls → t' .returns ≡ t .returns + 1 → atLeast 1 e ≡ true
-        → (skip ≡ true → F pc ≡ returnSkip) → Kept (returnOf chip skip c) t'
+        → (skip ≡ true → F pc ≡ ReturnsSkip) → Kept (returnOf chip skip c) t'
     unfolding returnOf
     returned skip f t' ec er m s =
         let l : 1 ≤ c .levels = least chip 1 e (c .levels) m (p .here .level) in
@@ -160,17 +161,17 @@ module _ (chip : Chip) (small : chip .levels ≤ places) (some : 0 < chip .level
     after-call to w true q s m = answered (ask (N (N pc)) e) [] m (p .here .level)
     after-call to w false q s m = absurd (let z : _≡_ {A = ℕ} 0 1 = cc in omega arith)
 
-    pub follows : (f : Flow) → F pc ≡ f → (b : Bool) → table3 chip rom depths f e ≡ true → allMet chip rom depths (asks4 chip rom depths f pc e) ≡ true
-        → call5 chip rom depths f pc e ≡ true → return6 chip rom depths f e ≡ true → Kept (flowControl chip f b c) (counted f t)
+    pub follows : (f : Flow) → F pc ≡ f → (b : Bool) → rule3 chip rom f e ≡ true → rule4 chip rom depths pc f e ≡ true
+        → rule5 chip rom depths pc f e ≡ true → rule6 f e ≡ true → Kept (flowControl chip f b c) (counted f t)
     unfolding flowControl
-    follows onward q b r3 r4 r5 r6 =
+    follows Onward q b r3 r4 r5 r6 =
         ordinary false (answered (ask (N pc) e) [] r4 (p .here .level)) (λ (x : false ≡ true). absurd (let z : _≡_ {A = ℕ} 0 1 = cc in omega arith))
-    follows skips q b r3 r4 r5 r6 =
+    follows Skips q b r3 r4 r5 r6 =
         ordinary b (answered (ask (N pc) e) (ask (N (N pc)) e ∷ []) r4 (p .here .level))
         (λ _. answered (ask (N (N pc)) e) [] (rest-met chip rom depths every (ask (N pc) e) (ask (N (N pc)) e ∷ []) r4) (p .here .level))
-    follows (branch to) q b r3 r4 r5 r6 = branches to (answered (ask to e) [] r4 (p .here .level))
-    follows (call to) q b r3 r4 r5 r6 =
-        let m = both (atMost (chip .levels - 1) e) (allMet chip rom depths (asks5 chip rom depths to pc e)) r5 in
+    follows (Branches to) q b r3 r4 r5 r6 = branches to (answered (ask to e) [] r4 (p .here .level))
+    follows (Calls to) q b r3 r4 r5 r6 =
+        let m = both (atMost (chip .levels - 1) e) (allMet chip rom depths (asks5 chip rom depths pc to e)) r5 in
         let second = cond (skipReturns chip rom depths (raised e)) (ask (N (N pc)) e ∷ []) [] in
         let up = raised-holds chip e (c .levels) some (m .0) (p .here .level) in
         calls to (m .0)
@@ -181,10 +182,10 @@ module _ (chip : Chip) (small : chip .levels ≤ places) (some : 0 < chip .level
               after-call to w (skipReturns chip rom depths (raised e)) refl (found chip rom depths every w (suc (c .levels)) (raised e) s f up)
               (rest-met chip rom depths every (ask to (raised e)) second (m .1));
         })
-    follows return q b r3 r4 r5 r6 =
-        returned false return (counted return t) refl refl r6 (λ (x : false ≡ true). absurd (let z : _≡_ {A = ℕ} 0 1 = cc in omega arith))
-    follows returnSkip q b r3 r4 r5 r6 = returned true returnSkip (counted returnSkip t) refl refl r6 (λ x. q)
-    follows table q b r3 r4 r5 r6 =
-        tabled (both (eqb (length rom) (2 ^ 10)) (atMost (chip .levels - 1) e) r3 .1) (answered (ask (N pc) e) [] r4 (p .here .level))
-    follows waits q b r3 r4 r5 r6 = waited (answered (ask (N pc) e) [] r4 (p .here .level))
-    follows barred q b r3 r4 r5 r6 = absurd (let z : _≡_ {A = ℕ} 0 1 = cc in omega arith)
+    follows Returns q b r3 r4 r5 r6 =
+        returned false Returns (counted Returns t) refl refl r6 (λ (x : false ≡ true). absurd (let z : _≡_ {A = ℕ} 0 1 = cc in omega arith))
+    follows ReturnsSkip q b r3 r4 r5 r6 = returned true ReturnsSkip (counted ReturnsSkip t) refl refl r6 (λ x. q)
+    follows ReadsTable q b r3 r4 r5 r6 =
+        tabled (table-free chip rom depths every e r3) (answered (ask (N pc) e) [] r4 (p .here .level))
+    follows StandsBy q b r3 r4 r5 r6 = waited (answered (ask (N pc) e) [] r4 (p .here .level))
+    follows Barred q b r3 r4 r5 r6 = absurd (let z : _≡_ {A = ℕ} 0 1 = cc in omega arith)

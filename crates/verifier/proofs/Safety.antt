@@ -28,7 +28,7 @@ use Rattle.cpu.proofs.Ranged.{ArFits, steps}
 use Rattle.cpu.proofs.Turns.{all-of}
 use Rattle.verifier.specs.Calls.{Call, step, run, stepInPlace, runInPlace, ownInRange, Tally, noCalls, afterReply, ifGoesOn, stepTally, runTally, refusalAt, leftBy, tallyAfter}
 use Rattle.verifier.specs.Entry.{holds}
-use Rattle.verifier.specs.Rules.{EveryRule, entryAt, flowAt, rule1, ruleHolds}
+use Rattle.verifier.specs.Rules.{EveryRule, entryAt, flowAt, rule1, ruleOf}
 use Rattle.verifier.specs.Safe.{Moment, Allowed, Within, During, Good, Safe}
 use Rattle.verifier.proofs.Paths.{OnPath}
 use Rattle.verifier.proofs.Steps.{Fair, stepped}
@@ -50,7 +50,7 @@ module _ (chip : Chip) (small : chip .levels ≤ places) (some : 0 < chip .level
 
     -- a step with inputs in range
     fair : (m : Machine) (t : Tally) → Inv m t → inputInRange i ≡ true
-        → Fair chip small some fits rom depths short every i (m .control .skip) (flowAt chip rom depths (m .control .pc)) t (S m)
+        → Fair chip small some fits rom depths short every i (m .control .skip) (flowAt rom (m .control .pc)) t (S m)
     fair m t v h =
         stepped chip small some fits rom depths short every i m t (v .ranged) (v .path) (all-of chip rom i m (v .ranged) h whole)
 
@@ -110,20 +110,20 @@ module _ (chip : Chip) (small : chip .levels ≤ places) (some : 0 < chip .level
     -- a call of the step
     pub record Stepped (m : Machine) (t : Tally) : Type 0 where
       pub answered : inputInRange i ≡ true → refusalOf ((S m) .reply) ≡ 0
-      pub otherwise : (refusalOf ((S m) .reply) ≡ 0) ⊎ (refusalOf ((S m) .reply) ≡ 1)
+      pub onlyOne : (refusalOf ((S m) .reply) ≡ 0) ⊎ (refusalOf ((S m) .reply) ≡ 1)
       pub after : Inv ((S m) .machine) (stepTally chip rom i m t)
 
     call-step : (m : Machine) (t : Tally) → Inv m t → (b : Bool) → inputInRange i ≡ b → Stepped m t
     call-step m t v true h =
-        record { answered = λ _. fair m t v h .answered; otherwise = inl (fair m t v h .answered); after = goes-on m t v h }
+        record { answered = λ _. fair m t v h .answered; onlyOne = inl (fair m t v h .answered); after = goes-on m t v h }
     call-step m t v false h =
         let d = denies-step m (own m (v .ranged) ∙ h) in
-        record { answered = λ q. never h q; otherwise = inr (rw d); after = rw d v }
+        record { answered = λ q. never h q; onlyOne = inr (rw d); after = rw d v }
 
     -- a call of the run
     pub record Running (budget : ℕ) (m : Machine) (t : Tally) (own : Bool) : Type 0 where
       pub answered : own ≡ true → (runOf chip rom i budget m) .refusal ≡ 0
-      pub otherwise : ((runOf chip rom i budget m) .refusal ≡ 0) ⊎ ((runOf chip rom i budget m) .refusal ≡ 1)
+      pub onlyOne : ((runOf chip rom i budget m) .refusal ≡ 0) ⊎ ((runOf chip rom i budget m) .refusal ≡ 1)
       pub during : own ≡ true → Within chip rom depths i budget m t
       pub after : Inv ((runOf chip rom i budget m) .machine) (cond own (runTally chip rom i budget m t) t)
 
@@ -144,14 +144,14 @@ module _ (chip : Chip) (small : chip .levels ≤ places) (some : 0 < chip .level
         let a : (runOf chip rom i budget m) .refusal ≡ 0 = ap (λ (x : Run). x .refusal) (taken budget m h) ∙ r .answered in
         record {
           answered = λ _. a;
-          otherwise = inl a;
+          onlyOne = inl a;
           during = λ _. r .within;
           after = subst (λ (x : Run). Inv (x .machine) (runTally chip rom i budget m t)) (sym (taken budget m h)) (r .after);
         }
     call-run budget m t v false h =
         record {
           answered = λ q. never refl q;
-          otherwise = inr (ap (λ (x : Run). x .refusal) (denies-run budget m h));
+          onlyOne = inr (ap (λ (x : Run). x .refusal) (denies-run budget m h));
           during = λ q. never refl q;
           after = subst (λ (x : Run). Inv (x .machine) t) (sym (denies-run budget m h)) v;
         }
@@ -165,12 +165,12 @@ module _ (chip : Chip) (small : chip .levels ≤ places) (some : 0 < chip .level
   by-step : (i : Input) (m : Machine) (t : Tally) → Inv m t → Called (step i) m t
   by-step i m t v =
       let s = call-step i m t v (inputInRange i) refl in
-      record { allowed = record { answered = s .answered; otherwise = s .otherwise }; during = tt; after = s .after }
+      record { allowed = record { answered = s .answered; onlyOne = s .onlyOne }; during = tt; after = s .after }
 
   by-step-in-place : (i : Input) (m : Machine) (t : Tally) → Inv m t → Called (stepInPlace i) m t
   by-step-in-place i m t v =
       let s = call-step i m t v (inputInRange i) refl in
-      record { allowed = record { answered = s .answered; otherwise = s .otherwise }; during = tt; after = s .after }
+      record { allowed = record { answered = s .answered; onlyOne = s .onlyOne }; during = tt; after = s .after }
 
   -- what refusal 1 tests of a run is the call's own inputs and budget
   tested : (i : Input) (budget : ℕ) (m : Machine) → machineInRange chip m ≡ true
@@ -181,7 +181,7 @@ module _ (chip : Chip) (small : chip .levels ≤ places) (some : 0 < chip .level
   by-run i budget m t v =
       let r = call-run i budget m t v (allInRange chip rom m i && budgetInRange budget) refl in
       record {
-        allowed = record { answered = λ q. r .answered (sym (tested i budget m (v .ranged)) ∙ q); otherwise = r .otherwise };
+        allowed = record { answered = λ q. r .answered (sym (tested i budget m (v .ranged)) ∙ q); onlyOne = r .onlyOne };
         during = r .during;
         after = r .after;
       }
@@ -190,7 +190,7 @@ module _ (chip : Chip) (small : chip .levels ≤ places) (some : 0 < chip .level
   by-run-in-place i budget m t v =
       let r = call-run i budget m t v (allInRange chip rom m i && budgetInRange budget) refl in
       record {
-        allowed = record { answered = λ q. r .answered (sym (tested i budget m (v .ranged)) ∙ q); otherwise = r .otherwise };
+        allowed = record { answered = λ q. r .answered (sym (tested i budget m (v .ranged)) ∙ q); onlyOne = r .onlyOne };
         during = r .during;
         after = r .after;
       }
@@ -218,8 +218,8 @@ rom-parts rom e =
     let p = both (ltb 0 (length rom)) (leb (length rom) 1024) e in
     (ltb-true 0 (length rom) (p .0), leb-true (length rom) 1024 (p .1))
 
-zero-level : (rom depths : List ℕ) → EveryRule upd17132 rom depths → 0 < length rom → holds upd17132 (entryAt upd17132 rom depths 0) 0 ≡ true
-unfolding ruleHolds rule1
+zero-level : (rom depths : List ℕ) → EveryRule upd17132 rom depths → 0 < length rom → holds upd17132 (entryAt depths 0) 0 ≡ true
+unfolding ruleOf rule1
 zero-level rom depths every h = every 0 1 h (lit≤ tt) (lit≤ tt)
 
 -- the theorem: where every rule holds, every list of calls from reset is good

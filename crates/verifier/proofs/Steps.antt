@@ -8,77 +8,32 @@ use native.Mathlib.Omega.{arith}
 use borrow.Author.Tests.{lt-leb, eqb-true}
 use lib.Dec.{eqb, leb}
 use lib.ListN.{getD, length}
-use Rattle.isa.specs.Answers.{Decoding, is, refused as undecoded}
 use Rattle.isa.specs.Decode.{decodeOf}
-use Rattle.isa.specs.declared.FixedOp.the-variants.{IncAr, IncIx, Movt, PushAr, PopAr, BrAr, CallAr, Ret, Retsk, Reti, Ei, Di, Nop}
 use Rattle.isa.specs.declared.Instruction.{Instruction}
-use Rattle.isa.specs.declared.Instruction.the-variants.{AluRegister, AluImmediate, Skip, Rorc, Ld, St, MovToIndirect, MovFromIndirect, MovImmediate, Peek, Poke, Get, Put, Br, Call, Stop, Halt, Fixed}
 use Rattle.memory.specs.Chip.{Chip}
 use Rattle.memory.specs.Range.{cellsInRange}
 use Rattle.memory.specs.Registers.{arOf}
 use Rattle.cpu.specs.Answers.{Reply, done, inStandby, refused, refusalOf, Step}
 use Rattle.cpu.specs.Control.{Transfer, controlOf, isStandby, marked, onwards}
 use Rattle.cpu.specs.Data.{skipsOf}
-use Rattle.cpu.specs.Flow.{Flow, table, barred, flowOf}
 use Rattle.cpu.specs.Parts.{cellsOf, withCells, withControl}
 use Rattle.cpu.specs.Ranges.{places, machineInRange, allInRange}
-use Rattle.cpu.specs.Step.{completed, denied, woken, leaving, dataOf, inBase, runnable, runsOf, pastTable, writtenOf, settleOf, executeOf, passOver, advanceOf, stepOf}
+use Rattle.cpu.specs.Step.{completed, denied, woken, leaving, dataOf, writtenOf, settleOf, executeOf, passOver, advanceOf, stepOf}
 use Rattle.cpu.specs.declared.Control.{Control}
 use Rattle.cpu.specs.declared.Input.{Input}
 use Rattle.cpu.specs.declared.Machine.{Machine}
 use Rattle.cpu.proofs.Inside.{both, machine-parts}
 use Rattle.cpu.proofs.Phases.{stays, passed-over, executed}
 use Rattle.cpu.proofs.Turns.{step-advances}
-use Rattle.step_laws.specs.FlowLaw.{flowControl}
-use Rattle.step_laws.proofs.Flows.{flow-law}
+use Rattle.flow.specs.Flow.{flowOf}
+use Rattle.flow.specs.FlowLaw.{flowControl}
+use Rattle.flow.specs.declared.Flow.{Flow}
+use Rattle.flow.specs.declared.Flow.the-variants.{ReadsTable, Barred}
+use Rattle.flow.proofs.Flows.{flow-law, no-table, word-flow}
 use Rattle.verifier.specs.Calls.{Tally, counted, afterReply, stepTally}
-use Rattle.verifier.specs.Rules.{decodedFlow, entryAt, flowAt, table3, EveryRule}
+use Rattle.verifier.specs.Rules.{entryAt, flowAt, rule3, EveryRule}
 use Rattle.verifier.proofs.Paths.{OnPath, Kept, follows}
-use Rattle.verifier.proofs.Ruled.{Stands, third, fourth, fifth, sixth}
-
--- only MOVT refers to a table
-no-table : (rom : List ℕ) (ar : ℕ) (i : Instruction) → (flowOf i ≡ table → leb (length rom) ar ≡ false) → pastTable rom ar i ≡ false
-unfolding pastTable
-no-table rom ar (AluRegister op r m) h = refl
-no-table rom ar (AluImmediate op m n4) h = refl
-no-table rom ar (Skip op m n4) h = refl
-no-table rom ar (Rorc r) h = refl
-no-table rom ar (Ld r m) h = refl
-no-table rom ar (St m r) h = refl
-no-table rom ar (MovToIndirect r m) h = refl
-no-table rom ar (MovFromIndirect m r) h = refl
-no-table rom ar (MovImmediate m n4) h = refl
-no-table rom ar (Peek rf) h = refl
-no-table rom ar (Poke rf) h = refl
-no-table rom ar (Get p) h = refl
-no-table rom ar (Put p) h = refl
-no-table rom ar (Br addr) h = refl
-no-table rom ar (Call addr) h = refl
-no-table rom ar (Stop s) h = refl
-no-table rom ar (Halt s) h = refl
-no-table rom ar (Fixed IncAr) h = refl
-no-table rom ar (Fixed IncIx) h = refl
-no-table rom ar (Fixed Movt) h = h refl
-no-table rom ar (Fixed PushAr) h = refl
-no-table rom ar (Fixed PopAr) h = refl
-no-table rom ar (Fixed BrAr) h = refl
-no-table rom ar (Fixed CallAr) h = refl
-no-table rom ar (Fixed Ret) h = refl
-no-table rom ar (Fixed Retsk) h = refl
-no-table rom ar (Fixed Reti) h = refl
-no-table rom ar (Fixed Ei) h = refl
-no-table rom ar (Fixed Di) h = refl
-no-table rom ar (Fixed Nop) h = refl
-
--- a word that is not barred is an instruction of the base, and has its flow
-plain-word : (i : Instruction) (b : Bool) → (decodedFlow (cond b (is i) (undecoded 4)) ≡ barred → ⊥) → decodedFlow (cond b (is i) (undecoded 4)) ≡ flowOf i
-plain-word i true n = refl
-plain-word i false n = absurd (n refl)
-
-word-flow : (d : Decoding) → (decodedFlow (runnable d) ≡ barred → ⊥) → (i : Instruction) × ((d ≡ is i) × (decodedFlow (runnable d) ≡ flowOf i))
-unfolding runnable
-word-flow (is i) n = (i, (refl, plain-word i (inBase i) n))
-word-flow (undecoded k) n = absurd (n refl)
+use Rattle.verifier.proofs.Ruled.{Stands, table-whole, third, fourth, fifth, sixth}
 
 module _ (chip : Chip) (small : chip .levels ≤ places) (some : 0 < chip .levels)
     (fits : (cells : List ℕ) → cellsInRange chip cells ≡ true → arOf cells < 2 ^ 10)
@@ -96,24 +51,24 @@ module _ (chip : Chip) (small : chip .levels ≤ places) (some : 0 < chip .level
     c = m .control
 
     abbrev f : Flow
-    f = flowAt chip rom depths (c .pc)
+    f = flowAt rom (c .pc)
 
     abbrev e : ℕ
-    e = entryAt chip rom depths (c .pc)
+    e = entryAt depths (c .pc)
 
-    r3 : table3 chip rom depths f e ≡ true
+    r3 : rule3 chip rom f e ≡ true
     r3 = third chip rom depths every (c .pc) (c .levels) (p .here)
 
-    not-barred : f ≡ barred → ⊥
+    not-barred : f ≡ Barred → ⊥
     not-barred q =
-        let z : table3 chip rom depths barred e ≡ true = subst (λ (x : Flow). table3 chip rom depths x e ≡ true) q r3 in
+        let z : rule3 chip rom Barred e ≡ true = subst (λ (x : Flow). rule3 chip rom x e ≡ true) q r3 in
         let n : _≡_ {A = ℕ} 0 1 = cc in
         omega arith
 
-    in-table : f ≡ table → leb (length rom) (arOf (cellsOf m)) ≡ false
+    in-table : f ≡ ReadsTable → leb (length rom) (arOf (cellsOf m)) ≡ false
     in-table q =
-        let z : table3 chip rom depths table e ≡ true = subst (λ (x : Flow). table3 chip rom depths x e ≡ true) q r3 in
-        let n : length rom ≡ 2 ^ 10 = eqb-true (length rom) (2 ^ 10) (both (eqb (length rom) (2 ^ 10)) _ z .0) in
+        let z : rule3 chip rom ReadsTable e ≡ true = subst (λ (x : Flow). rule3 chip rom x e ≡ true) q r3 in
+        let n : length rom ≡ 2 ^ 10 = table-whole chip rom depths every e z in
         lt-leb (length rom) (arOf (cellsOf m)) (rw n (fits (cellsOf m) (machine-parts chip m r .0)))
 
     -- the same control without the standby mark
@@ -130,10 +85,10 @@ module _ (chip : Chip) (small : chip .levels ≤ places) (some : 0 < chip .level
         (sixth chip rom depths every (c .pc) (c .levels) (p .here)) in
         let law : flowControl chip f b (marked (c .skip) false c) ≡ controlOf chip i b (arOf (cellsOf m)) (marked (c .skip) false c)
         = ap (λ (x : Flow). flowControl chip x b (marked (c .skip) false c)) q
-        ∙ sym (flow-law chip i b (arOf (cellsOf m)) (marked (c .skip) false c) (λ (x : flowOf i ≡ barred). not-barred (q ∙ x))) in
+        ∙ sym (flow-law chip i b (arOf (cellsOf m)) (marked (c .skip) false c) (λ (x : flowOf i ≡ Barred). not-barred (q ∙ x))) in
         let x : Transfer = controlOf chip i b (arOf (cellsOf m)) (marked (c .skip) false c) in
         let k' : Kept chip small some rom depths short every x (counted f t) = subst (λ (y : Transfer). Kept chip small some rom depths short every y (counted f t)) law k in
-        rw (k' .unrefused, no-table rom (arOf (cellsOf m)) i (λ (y : flowOf i ≡ table). in-table (q ∙ y)))
+        rw (k' .unrefused, no-table rom (arOf (cellsOf m)) i (λ (y : flowOf i ≡ ReadsTable). in-table (q ∙ y)))
         (record { answered = refl; path = k' .path })
 
     -- what a refusal would leave does not matter: there is none

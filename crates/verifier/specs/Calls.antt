@@ -1,22 +1,22 @@
 -- The calls that demand 3 speaks of, and what is counted while they run: document 01, "What the contracts owe", its last
 -- paragraph.
 -- Assumes nothing.
-use mathlib.Core.Path.{_≡_}
-use mathlib.Core.Bool.{Bool, true, false, _&&_, cond}
+use mathlib.Core.Bool.{Bool, _&&_, cond}
 use mathlib.Core.List.{List}
 use Prim.Native.Nat.{ℕ, zero, suc, _+_}
 use lib.ListN.{getD}
 use Rattle.memory.specs.Chip.{Chip}
-use Rattle.cpu.specs.Answers.{Reply, done, inStandby, refused, refusalOf, Step, Run}
+use Rattle.cpu.specs.Answers.{Reply, done, inStandby, refused, refusalOf}
 use Rattle.cpu.specs.Control.{isStandby}
-use Rattle.cpu.specs.Flow.{Flow, onward, skips, branch, call, return, returnSkip, table, waits, barred}
 use Rattle.cpu.specs.InPlace.{stepInPlaceOf, runInPlaceOf}
 use Rattle.cpu.specs.Ranges.{allInRange, inputInRange, budgetInRange}
 use Rattle.cpu.specs.Run.{runOf}
 use Rattle.cpu.specs.Step.{stepOf}
 use Rattle.cpu.specs.declared.Input.{Input}
 use Rattle.cpu.specs.declared.Machine.{Machine}
-use Rattle.verifier.specs.Rules.{wordFlow}
+use Rattle.flow.specs.Flow.{wordFlow}
+use Rattle.flow.specs.declared.Flow.{Flow}
+use Rattle.flow.specs.declared.Flow.the-variants.{Onward, Skips, Branches, Calls, Returns, ReturnsSkip, ReadsTable, StandsBy, Barred}
 
 -- a call of the single step or of the counted run, by value or in place, with its own inputs and budget
 pub data Call : Type 0 where
@@ -42,15 +42,15 @@ noCalls = record { calls = 0; returns = 0 }
 
 -- a word that ran
 abbrev pub counted : Flow → Tally → Tally
-counted onward t = t
-counted skips t = t
-counted (branch to) t = t
-counted (call to) t = record { calls = t .calls + 1; returns = t .returns }
-counted return t = record { calls = t .calls; returns = t .returns + 1 }
-counted returnSkip t = record { calls = t .calls; returns = t .returns + 1 }
-counted table t = t
-counted waits t = t
-counted barred t = t
+counted Onward t = t
+counted Skips t = t
+counted (Branches to) t = t
+counted (Calls to) t = record { calls = t .calls + 1; returns = t .returns }
+counted Returns t = record { calls = t .calls; returns = t .returns + 1 }
+counted ReturnsSkip t = record { calls = t .calls; returns = t .returns + 1 }
+counted ReadsTable t = t
+counted StandsBy t = t
+counted Barred t = t
 
 -- a completed step counts its word, unless that was skipped; a step that answers "standing" or is refused counts nothing
 abbrev pub afterReply : Reply → Bool → Flow → Tally → Tally

@@ -2,41 +2,44 @@
 -- 5, or 15 for never reached.
 -- Assumes nothing.
 use mathlib.Core.Bool.{Bool, _&&_, _||_}
-use Prim.Native.Nat.{ℕ, suc}
+use Prim.Native.Nat.{ℕ, _+_}
 use lib.Dec.{eqb, leb}
 use Rattle.memory.specs.Chip.{Chip}
 
-abbrev pub unreached : ℕ
+abbrev pub Entry : Type 0
+Entry = ℕ
+
+abbrev pub unreached : Entry
 unreached = 15
 
 module _ (chip : Chip) where
   -- "A word is reached if its entry is 0 to 5"
-  unfoldable pub reached : ℕ → Bool
+  unfoldable pub reached : Entry → Bool
   reached e = leb e (chip .levels)
 
-  -- an entry that rule 2 allows
-  unfoldable pub allowed : ℕ → Bool
-  allowed e = reached e || eqb e unreached
+  -- 0 to 5 or 15
+  unfoldable pub proper : Entry → Bool
+  proper e = reached e || eqb e unreached
 
   -- so many calls may be open there
-  unfoldable pub holds : ℕ → ℕ → Bool
+  unfoldable pub holds : Entry → ℕ → Bool
   holds e d = reached e && eqb e d
 
-  -- e holds every depth that f holds
-  unfoldable pub covers : ℕ → ℕ → Bool
+  -- e is reached, and holds every depth of f
+  unfoldable pub covers : Entry → Entry → Bool
   covers e f = reached e && eqb e f
 
   -- some depth is held by both
-  unfoldable pub shares : ℕ → ℕ → Bool
+  unfoldable pub shares : Entry → Entry → Bool
   shares e f = reached e && eqb e f
 
 -- one call more
-unfoldable pub raised : ℕ → ℕ
-raised e = suc e
+unfoldable pub raised : Entry → Entry
+raised e = e + 1
 
 -- bounds of the depths that an entry holds
-unfoldable pub atMost : ℕ → ℕ → Bool
+unfoldable pub atMost : ℕ → Entry → Bool
 atMost k e = leb e k
 
-unfoldable pub atLeast : ℕ → ℕ → Bool
+unfoldable pub atLeast : ℕ → Entry → Bool
 atLeast k e = leb k e

@@ -3,7 +3,7 @@
 -- are its level.
 -- Assumes nothing.
 use mathlib.Core.Path.{_≡_}
-use mathlib.Core.Bool.{Bool, true, _&&_}
+use mathlib.Core.Bool.{true, _&&_}
 use mathlib.Core.List.{List, [], _∷_}
 use mathlib.Core.Logic.{_⊎_}
 use Prim.Native.Nat.{ℕ, zero, suc, _+_, _<_}
@@ -25,12 +25,12 @@ module _ (chip : Chip) (rom depths : List ℕ) where
   pub record Moment (m : Machine) (t : Tally) : Type 0 where
     pub inside : m .control .pc < length rom
     pub opened : t .returns + m .control .levels ≡ t .calls
-    pub level : holds chip (entryAt chip rom depths (m .control .pc)) (m .control .levels) ≡ true
+    pub level : holds chip (entryAt depths (m .control .pc)) (m .control .levels) ≡ true
 
   -- a call that has its own inputs and budget in range is not refused, and no call with a number other than 1
   pub record Allowed (c : Call) (m : Machine) : Type 0 where
     pub answered : ownInRange c ≡ true → refusalAt chip rom c m ≡ 0
-    pub otherwise : (refusalAt chip rom c m ≡ 0) ⊎ (refusalAt chip rom c m ≡ 1)
+    pub onlyOne : (refusalAt chip rom c m ≡ 0) ⊎ (refusalAt chip rom c m ≡ 1)
 
   -- before each step inside a run
   unfoldable pub Within : Input → ℕ → Machine → Tally → Type 0

@@ -1,4 +1,5 @@
--- What the check answers: document 01, "A failed check names the lowest word that breaks a rule, and its lowest rule".
+-- What the check answers: document 01, "A failed check names the lowest word that breaks a rule, and its lowest rule"; and
+-- demand 3, when it passes.
 -- Assumes nothing.
 use mathlib.Core.Path.{_≡_}
 use mathlib.Core.Bool.{Bool, true, cond}
@@ -12,12 +13,24 @@ use Rattle.laws.specs.First.{firstFalse}
 use Rattle.memory.specs.Chip.{Chip}
 use Rattle.cpu.specs.Ranges.{romInRange}
 use Rattle.verifier.specs.Rules.{ruleHolds, EveryRule}
+use Rattle.verifier.specs.declared.Verdict.{Verdict}
+use Rattle.verifier.specs.declared.Verdict.the-variants.{Pass, Fail, RomLength, SheetLength}
 
 pub data Answer : Type 0 where
   pass : Answer
   -- a word and a rule
   fail : ℕ → ℕ → Answer
   refused : ℕ → Answer
+
+abbrev pub answerOf : Verdict → Answer
+answerOf Pass = pass
+answerOf (Fail word rule) = fail word rule
+answerOf RomLength = refused 1
+answerOf SheetLength = refused 9
+
+-- what stands for each verdict loses nothing
+abbrev pub Faithful : Type 0
+Faithful = (a b : Verdict) → answerOf a ≡ answerOf b → a ≡ b
 
 module _ (chip : Chip) (rom depths : List ℕ) where
   -- every rule holds at a word
@@ -43,6 +56,6 @@ module _ (chip : Chip) (rom depths : List ℕ) where
     pub fitting : length depths ≡ length rom
     pub rules : EveryRule chip rom depths
 
-  -- "The check passes a ROM with its sheet exactly when it has no refusal for them and the clearance rules hold"
+  -- "The check passes a ROM with its sheet exactly when it has no refusal for them and document 01's clearance rules hold"
   abbrev pub Exactly : Type 0
   Exactly = (verifyOf ≡ pass) ↔ Clear

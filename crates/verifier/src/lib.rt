@@ -1,1 +1,17 @@
-// The level sheet check.
+// The level sheet check. A ROM that passes it with its sheet never runs into a refusal of its own.
+mod check;
+mod rules;
+mod sheet;
+
+pub use check::verify;
+
+// What the check answers.
+pub enum Verdict {
+    Pass,
+    // The lowest word that breaks a clearance rule, and its lowest rule.
+    Fail { word: u16, rule: u8 },
+    // The ROM has not 1 to 1,024 words: refusal 1.
+    RomLength,
+    // The sheet's length differs from the ROM's: refusal 9.
+    SheetLength,
+}

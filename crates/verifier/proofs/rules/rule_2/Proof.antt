@@ -1,0 +1,27 @@
+use mathlib.Core.Path.{_≡_, _∙_, ap, refl, sym}
+use borrow.Author.Tests.{lt-ltb, le-ltb, le-leb, lt-leb, eq-eqb, ne-eqb, not-true, not-false}
+use Rattle.verifier.specs.Entry.{proper}
+use Rattle.verifier.specs.Rules.{rule2}
+use borrow.Author.Needs.{needs}
+use Rattle.verifier.proofs.rules.rule_2.Statement.{statement}
+use Rattle.verifier.proofs.rules.rule_2.Tie as tie
+use Rattle.verifier.proofs.rules.rule_2.Reads as reads
+use Rattle.verifier.proofs.rules.rule_2.Lts as lts
+use Rattle.verifier.proofs.sheet.reached.Reads as reached-reads
+
+-- src/rules.rt:26:8
+reached-requires : tie.Need-reached-requires
+reached-requires c κs = search needs
+
+-- src/rules.rt:27:9
+returns : tie.Need-returns
+unfolding rule2 proper
+returns c = simp (sym (c .before .reached .ensures) ∙ c .if1 .taken)
+
+-- src/rules.rt:23:1
+returns-2 : tie.Need-returns-2
+unfolding rule2 proper
+returns-2 c = simp (sym (c .before .reached .ensures) ∙ c .if1 .left)
+
+pub rule-2-spec : {M : Type 1} → statement M
+rule-2-spec = tie.close (tie.spec reached-requires returns returns-2)
