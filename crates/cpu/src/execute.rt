@@ -89,35 +89,35 @@ pub fn execute(
     let directions = input.directions;
     match instruction {
         Instruction::AluRegister { op, r, m } => {
-            data::alu_register(cells, pins, directions, op, r, m);
+            data::alu_register(cells, &pins, &directions, op, r, m);
             Moved::To(flow::onward(regs, false))
         }
         Instruction::AluImmediate { op, m, n4 } => {
-            data::alu_immediate(cells, pins, directions, op, m, n4);
+            data::alu_immediate(cells, &pins, &directions, op, m, n4);
             Moved::To(flow::onward(regs, false))
         }
         Instruction::Skip { op, m, n4 } => {
-            let skips = data::skip(cells, pins, directions, op, m, n4);
+            let skips = data::skip(cells, &pins, &directions, op, m, n4);
             Moved::To(flow::onward(regs, skips))
         }
         Instruction::Rorc(r) => {
-            data::rorc(cells, pins, directions, r);
+            data::rorc(cells, &pins, &directions, r);
             Moved::To(flow::onward(regs, false))
         }
         Instruction::Ld { r, m } => {
-            data::ld(cells, pins, directions, r, m);
+            data::ld(cells, &pins, &directions, r, m);
             Moved::To(flow::onward(regs, false))
         }
         Instruction::St { m, r } => {
-            data::st(cells, pins, directions, m, r);
+            data::st(cells, &pins, &directions, m, r);
             Moved::To(flow::onward(regs, false))
         }
         Instruction::MovToIndirect { r, m } => {
-            data::mov_to(cells, pins, directions, r, m);
+            data::mov_to(cells, &pins, &directions, r, m);
             Moved::To(flow::onward(regs, false))
         }
         Instruction::MovFromIndirect { m, r } => {
-            data::mov_from(cells, pins, directions, m, r);
+            data::mov_from(cells, &pins, &directions, m, r);
             Moved::To(flow::onward(regs, false))
         }
         Instruction::MovImmediate { m, n4 } => {

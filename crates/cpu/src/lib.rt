@@ -7,7 +7,7 @@ mod running;
 mod stepping;
 
 pub use running::run;
-pub use stepping::step;
+pub use running::step;
 ghost use mathlib.Core.Path.{_≡_};
 ghost use Rattle.cpu.specs.Parts.{resetMachine};
 use memory::Memory;
@@ -102,6 +102,13 @@ enum Fetched {
 struct Advanced {
     answer: Answer,
     regs: Regs,
+}
+
+// How far a run went: the steps completed, the last step's answer, and the machine.
+struct Gone {
+    steps: u32,
+    answer: Answer,
+    machine: Machine,
 }
 
 impl Machine {

@@ -5,11 +5,10 @@ ghost use mathlib.Core.Bool.{false, _&&_};
 ghost use Prim.Native.Nat.{ℕ, _≤_};
 ghost use lib.Dec.{eqb};
 ghost use Rattle.memory.specs.Chip.{upd17132};
-ghost use Rattle.cpu.specs.Answers.{stepOfStepped};
 ghost use Rattle.cpu.specs.Control.{marked};
 ghost use Rattle.cpu.specs.Inside.{fetchedOf, advancedOf};
 ghost use Rattle.cpu.specs.Parts.{withStack, wholeOf};
-ghost use Rattle.cpu.specs.Step.{advanceOf, stepOf};
+ghost use Rattle.cpu.specs.Step.{advanceOf};
 use crate::Advanced;
 use crate::Answer;
 use crate::Control;
@@ -19,10 +18,8 @@ use crate::Machine;
 use crate::Moved;
 use crate::Refusal;
 use crate::Regs;
-use crate::Stepped;
 use crate::execute::execute;
 use crate::flow;
-use crate::ranges;
 use isa::Decoded;
 use memory::Memory;
 
@@ -59,15 +56,6 @@ fn woken(regs: Regs) -> Regs
     }
 }
 
-fn refuse(regs: Regs, refusal: Refusal) -> Advanced
-    ensures { λ r. ⌜ r ≡ record { answer = Answer.Refused refusal; regs = regs } ⌝ }
-{
-    Advanced {
-        answer: Answer::Refused(refusal),
-        regs: regs,
-    }
-}
-
 // A step of a machine in range. A skipped word is fetched and not decoded.
 pub fn advance(
     rom: &[u16],
@@ -86,7 +74,10 @@ pub fn advance(
         };
     }
     let Fetched::Word(word) = fetch(rom, regs.pc) else {
-        return refuse(regs, Refusal::PastRom);
+        return Advanced {
+            answer: Answer::Refused(Refusal::PastRom),
+            regs: regs,
+        };
     };
     let awake = woken(regs);
     if regs.skip {
@@ -96,14 +87,20 @@ pub fn advance(
         };
     }
     let Decoded::Instruction(instruction) = isa::decode(word) else {
-        return refuse(regs, Refusal::NoInstruction);
+        return Advanced {
+            answer: Answer::Refused(Refusal::NoInstruction),
+            regs: regs,
+        };
     };
     match execute(rom, instruction, cells, stack, awake, input) {
         Moved::To(next) => Advanced {
             answer: Answer::Done,
             regs: next,
         },
-        Moved::Refused(refusal) => refuse(regs, refusal),
+        Moved::Refused(refusal) => Advanced {
+            answer: Answer::Refused(refusal),
+            regs: regs,
+        },
     }
 }
 
@@ -130,28 +127,5 @@ pub fn join(cells: [u8; 128], stack: [u16; 5], regs: Regs) -> Machine
             skip: regs.skip,
             standby: regs.standby,
         },
-    }
-}
-
-// One step.
-pub fn step(rom: &[u16], machine: Machine, input: Input) -> Stepped
-    ensures { λ r. ⌜ stepOfStepped r ≡ stepOf upd17132 (now (rom .entry)) input machine ⌝ }
-{
-    if !ranges::all(rom, machine, input) {
-        return Stepped {
-            answer: Answer::Refused(Refusal::OutOfRange),
-            machine: machine,
-        };
-    }
-    let memory = machine.memory;
-    let control = machine.control;
-    let mut cells = memory.cells;
-    let mut stack = control.stack;
-    let after = advance(rom, &mut cells, &mut stack, regs_of(control), input);
-    let answer = after.answer;
-    let regs = after.regs;
-    Stepped {
-        answer: answer,
-        machine: join(cells, stack, regs),
     }
 }

@@ -19,6 +19,17 @@ pub fn write(cells: [u8; 128], at: u8, v: u8) -> [u8; 128]
     next
 }
 
+// The same where the cells stand. A write by value at a variable address copies them out and back.
+pub fn store(cells: &mut [u8; 128], at: u8, v: u8)
+    ensures { λ _. ⌜ now (cells .exit) ≡ writeOf upd17132 (now (cells .entry)) at v ⌝ }
+{
+    if 128 <= at {
+        *cells = write(*cells, at, v);
+        return;
+    }
+    cells[at as usize] = v & MASKS[at as usize];
+}
+
 // Bit by bit the pin where the direction is 0 and the stored bit where it is 1.
 fn mix(pin: u8, direction: u8, stored: u8) -> u8
     ensures { λ r. ⌜ r ≡ mixOf pin direction stored ⌝ }
@@ -27,8 +38,8 @@ fn mix(pin: u8, direction: u8, stored: u8) -> u8
 }
 
 // A cell as an instruction reads it. Pins and directions are those of P0A to P0E.
-pub fn read(cells: &[u8; 128], pins: [u8; 5], directions: [u8; 5], at: u8) -> u8
-    ensures { λ r. ⌜ r ≡ readOf upd17132 (now (cells .entry)) pins directions at ⌝ }
+pub fn read(cells: &[u8; 128], pins: &[u8; 5], directions: &[u8; 5], at: u8) -> u8
+    ensures { λ r. ⌜ r ≡ readOf upd17132 (now (cells .entry)) (now (pins .entry)) (now (directions .entry)) at ⌝ }
 {
     if 128 <= at {
         return 0;

@@ -139,40 +139,40 @@ fixed-requires c κs = search needs
 
 returns : tie.Need-returns
 unfolding controlOf skipsOf pastTable writtenOf writesOf writesApplied
-returns c = rw (c .before .before .before .before .instruction .given .1) (completes _ _ _ _ _ _ _ _ _ _ (c .onward .ensures _) refl (c .before .alu-register .ensures))
+returns c = rw (c .before .before .before .before .before .before .instruction .given .1) (completes _ _ _ _ _ _ _ _ _ _ (c .onward .ensures _) refl (c .before .alu-register .ensures))
 
 returns-2 : tie.Need-returns-2
 unfolding controlOf skipsOf pastTable writtenOf writesOf writesApplied
-returns-2 c = rw (c .before .before .before .before .instruction2 .given .1) (completes _ _ _ _ _ _ _ _ _ _ (c .onward2 .ensures _) refl (c .before .alu-immediate .ensures))
+returns-2 c = rw (c .before .before .before .before .before .before .instruction2 .given .1) (completes _ _ _ _ _ _ _ _ _ _ (c .onward2 .ensures _) refl (c .before .alu-immediate .ensures))
 
 returns-3 : tie.Need-returns-3
 unfolding controlOf skipsOf pastTable writtenOf writesOf writesApplied
 returns-3 c =
-    let s = c .before .before .before .before .before .before .before .before .before .args in
-    rw (c .before .before .before .before .instruction3 .given .1)
+    let s = c .before .before .before .before .before .before .before .before .before .before .before .args in
+    rw (c .before .before .before .before .before .before .instruction3 .given .1)
     (completes _ _ _ _ _ _ _ _ _ _
     (c .onward3 .ensures _ ∙ ap (λ (b : Bool). onwardOf upd17132 b (withStack (s .stack .now) (s .regs))) (c .before .skip .ensures .1))
     refl (c .before .skip .ensures .0))
 
 returns-4 : tie.Need-returns-4
 unfolding controlOf skipsOf pastTable writtenOf writesOf writesApplied
-returns-4 c = rw (c .before .before .before .before .instruction4 .given .1) (completes _ _ _ _ _ _ _ _ _ _ (c .onward4 .ensures _) refl (c .before .rorc .ensures))
+returns-4 c = rw (c .before .before .before .before .before .before .instruction4 .given .1) (completes _ _ _ _ _ _ _ _ _ _ (c .onward4 .ensures _) refl (c .before .rorc .ensures))
 
 returns-5 : tie.Need-returns-5
 unfolding controlOf skipsOf pastTable writtenOf writesOf writesApplied
-returns-5 c = rw (c .before .before .before .before .instruction5 .given .1) (completes _ _ _ _ _ _ _ _ _ _ (c .onward5 .ensures _) refl (c .before .ld .ensures))
+returns-5 c = rw (c .before .before .before .before .before .before .instruction5 .given .1) (completes _ _ _ _ _ _ _ _ _ _ (c .onward5 .ensures _) refl (c .before .ld .ensures))
 
 returns-6 : tie.Need-returns-6
 unfolding controlOf skipsOf pastTable writtenOf writesOf writesApplied
-returns-6 c = rw (c .before .before .before .before .instruction6 .given .1) (completes _ _ _ _ _ _ _ _ _ _ (c .onward6 .ensures _) refl (c .before .st .ensures))
+returns-6 c = rw (c .before .before .before .before .before .before .instruction6 .given .1) (completes _ _ _ _ _ _ _ _ _ _ (c .onward6 .ensures _) refl (c .before .st .ensures))
 
 returns-7 : tie.Need-returns-7
 unfolding controlOf skipsOf pastTable writtenOf writesOf writesApplied
-returns-7 c = rw (c .before .before .before .before .instruction7 .given .1) (completes _ _ _ _ _ _ _ _ _ _ (c .onward7 .ensures _) refl (c .before .mov-to .ensures))
+returns-7 c = rw (c .before .before .before .before .before .before .instruction7 .given .1) (completes _ _ _ _ _ _ _ _ _ _ (c .onward7 .ensures _) refl (c .before .mov-to .ensures))
 
 returns-8 : tie.Need-returns-8
 unfolding controlOf skipsOf pastTable writtenOf writesOf writesApplied
-returns-8 c = rw (c .before .before .before .before .instruction8 .given .1) (completes _ _ _ _ _ _ _ _ _ _ (c .onward8 .ensures _) refl (c .before .mov-from .ensures))
+returns-8 c = rw (c .before .before .before .before .before .before .instruction8 .given .1) (completes _ _ _ _ _ _ _ _ _ _ (c .onward8 .ensures _) refl (c .before .mov-from .ensures))
 
 returns-9 : tie.Need-returns-9
 unfolding controlOf skipsOf pastTable writtenOf writesOf writesApplied

@@ -33,14 +33,10 @@ enum-known-word c = search needs
 enum-told : tie.Need-enum-told
 enum-told c = search needs
 
-refuse-requires : tie.Need-refuse-requires
-refuse-requires c κs = search needs
-
 returns-2 : tie.Need-returns-2
 returns-2 c =
-    rw (c .refuse .ensures)
-    (past _ _ _ _ (sym (c .before .before .before .before .before .stays .ensures) ∙ c .before .before .before .before .if1 .left)
-    (past-rom (c .before .before .before .before .before .before .before .args .rom .now) (c .before .before .before .before .before .before .before .args .regs .pc) (sym (c .before .before .before .fetch .ensures) ∙ c .before .enum-told .given .1)))
+    past _ _ _ _ (sym (c .before .before .before .before .stays .ensures) ∙ c .before .before .before .if1 .left)
+    (past-rom (c .before .before .before .before .before .before .args .rom .now) (c .before .before .before .before .before .before .args .regs .pc) (sym (c .before .before .fetch .ensures) ∙ c .enum-told .given .1))
 
 woken-requires : tie.Need-woken-requires
 woken-requires c κs = search needs
@@ -67,15 +63,11 @@ enum-known-instruction c = search needs
 enum-told-2 : tie.Need-enum-told-2
 enum-told-2 c = search needs
 
-refuse-requires-2 : tie.Need-refuse-requires-2
-refuse-requires-2 c κs = search needs
-
 returns-4 : tie.Need-returns-4
 returns-4 c =
-    let w = word-at (c .before .before .before .before .before .before .before .before .before .before .before .before .before .args .rom .now) (c .before .before .before .before .before .before .before .before .before .before .before .before .before .args .regs .pc) _ (sym (c .before .before .before .before .before .before .before .before .before .fetch .ensures) ∙ c .before .before .before .before .before .before .before .word .given .1) in
-    rw (c .refuse2 .ensures)
-    (undecodable _ _ _ _ (sym (c .before .before .before .before .before .before .before .before .before .before .before .stays .ensures) ∙ c .before .before .before .before .before .before .before .before .before .before .if1 .left) (w .0) (c .before .before .before .before .if2 .left)
-    (ap decodeOf (w .1) ∙ sym (c .before .before .before .decode .ensures) ∙ ap decodingOf (c .before .enum-told2 .given .1)))
+    let w = word-at (c .before .before .before .before .before .before .before .before .before .before .before .before .args .rom .now) (c .before .before .before .before .before .before .before .before .before .before .before .before .args .regs .pc) _ (sym (c .before .before .before .before .before .before .before .before .fetch .ensures) ∙ c .before .before .before .before .before .before .word .given .1) in
+    undecodable _ _ _ _ (sym (c .before .before .before .before .before .before .before .before .before .before .stays .ensures) ∙ c .before .before .before .before .before .before .before .before .before .if1 .left) (w .0) (c .before .before .before .if2 .left)
+    (ap decodeOf (w .1) ∙ sym (c .before .before .decode .ensures) ∙ ap decodingOf (c .enum-told2 .given .1))
 
 execute-requires : tie.Need-execute-requires
 execute-requires c κs = rw (ap (λ (k : Control). k .levels) (c .before .before .before .before .before .before .before .woken .ensures [])) (c .before .before .before .before .before .before .before .before .before .before .before .before .before .before .before .pre)
@@ -85,9 +77,6 @@ enum-known-next c = search needs
 
 enum-known-refusal : tie.Need-enum-known-refusal
 enum-known-refusal c = search needs
-
-refuse-requires-3 : tie.Need-refuse-requires-3
-refuse-requires-3 c κs = search needs
 
 returns-5 : tie.Need-returns-5
 returns-5 c =
@@ -101,15 +90,15 @@ returns-5 c =
 
 returns-6 : tie.Need-returns-6
 returns-6 c =
-    let s = c .before .before .before .before .before .before .before .before .before .before .before .before .before .before .before .before .before .before .before .before .args in
-    let w = word-at (c .before .before .before .before .before .before .before .before .before .before .before .before .before .before .before .before .before .before .before .before .args .rom .now) (c .before .before .before .before .before .before .before .before .before .before .before .before .before .before .before .before .before .before .before .before .args .regs .pc) _ (sym (c .before .before .before .before .before .before .before .before .before .before .before .before .before .before .before .before .fetch .ensures) ∙ c .before .before .before .before .before .before .before .before .before .before .before .before .before .before .word .given .1) in
-    let i = c .before .before .before .before .before .before .before .before .instruction .given .0 .0 in
-    let e = rw (c .before .before .refusal .given .1) at (c .before .before .before .before .execute .ensures) in
+    let s = c .before .before .before .before .before .before .before .before .before .before .before .before .before .before .before .before .before .before .before .args in
+    let w = word-at (c .before .before .before .before .before .before .before .before .before .before .before .before .before .before .before .before .before .before .before .args .rom .now) (c .before .before .before .before .before .before .before .before .before .before .before .before .before .before .before .before .before .before .before .args .regs .pc) _ (sym (c .before .before .before .before .before .before .before .before .before .before .before .before .before .before .before .fetch .ensures) ∙ c .before .before .before .before .before .before .before .before .before .before .before .before .before .word .given .1) in
+    let i = c .before .before .before .before .before .before .before .instruction .given .0 .0 in
+    let e = rw (c .before .refusal .given .1) at (c .before .before .before .execute .ensures) in
     let k = refused-kept upd17132 (s .rom .now) (s .input) i _ _ _ e in
-    rw (c .refuse3 .ensures, ap cellsOf k, ap (λ (m : Machine). m .control .stack) k)
-    (executed _ _ _ (wholeOf (s .cells .now) (s .stack .now) (s .regs)) (sym (c .before .before .before .before .before .before .before .before .before .before .before .before .before .before .before .before .before .before .stays .ensures) ∙ c .before .before .before .before .before .before .before .before .before .before .before .before .before .before .before .before .before .if1 .left) (w .0) (c .before .before .before .before .before .before .before .before .before .before .before .if2 .left) i _
-    (ap decodeOf (w .1) ∙ sym (c .before .before .before .before .before .before .before .before .before .before .decode .ensures) ∙ ap decodingOf (c .before .before .before .before .before .before .before .before .instruction .given .1))
-    (e ∙ ap (λ (k : Control). executeOf upd17132 (s .rom .now) (s .input) i (machineOf (s .cells .now) k)) (c .before .before .before .before .before .before .before .before .before .before .before .before .woken .ensures (s .stack .now))))
+    rw (ap cellsOf k, ap (λ (m : Machine). m .control .stack) k)
+    (executed _ _ _ (wholeOf (s .cells .now) (s .stack .now) (s .regs)) (sym (c .before .before .before .before .before .before .before .before .before .before .before .before .before .before .before .before .before .stays .ensures) ∙ c .before .before .before .before .before .before .before .before .before .before .before .before .before .before .before .before .if1 .left) (w .0) (c .before .before .before .before .before .before .before .before .before .before .if2 .left) i _
+    (ap decodeOf (w .1) ∙ sym (c .before .before .before .before .before .before .before .before .before .decode .ensures) ∙ ap decodingOf (c .before .before .before .before .before .before .before .instruction .given .1))
+    (e ∙ ap (λ (k : Control). executeOf upd17132 (s .rom .now) (s .input) i (machineOf (s .cells .now) k)) (c .before .before .before .before .before .before .before .before .before .before .before .woken .ensures (s .stack .now))))
 
 pub advance-spec : {M : Type 1} → statement M
 advance-spec =
@@ -120,7 +109,6 @@ advance-spec =
     fetch-requires
     enum-known-word
     enum-told
-    refuse-requires
     returns-2
     woken-requires
     onward-requires
@@ -128,11 +116,9 @@ advance-spec =
     decode-requires
     enum-known-instruction
     enum-told-2
-    refuse-requires-2
     returns-4
     execute-requires
     enum-known-next
     enum-known-refusal
-    refuse-requires-3
     returns-5
     returns-6)
