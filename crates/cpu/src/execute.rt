@@ -3,7 +3,7 @@ ghost use mathlib.Core.Path.{_≡_};
 ghost use mathlib.Core.List.{List};
 ghost use Prim.Native.Nat.{ℕ, _≤_};
 ghost use Rattle.memory.specs.Chip.{upd17132};
-ghost use Rattle.cpu.specs.Inside.{executedOf};
+ghost use Rattle.cpu.specs.Inside.{executedOf, inputAt};
 ghost use Rattle.cpu.specs.Parts.{wholeOf};
 ghost use Rattle.cpu.specs.Step.{executeOf};
 use crate::Input;
@@ -80,44 +80,43 @@ pub fn execute(
     cells: &mut [u8; 128],
     stack: &mut [u16; 5],
     regs: Regs,
-    input: Input,
+    pins: &[u8; 5],
+    directions: &[u8; 5],
 ) -> Moved
     requires { ⌜ regs .levels ≤ 5 ⌝ }
-    ensures { λ r. ⌜ executedOf (now (cells .exit)) (now (stack .exit)) regs r ≡ executeOf upd17132 (now (rom .entry)) input instruction (wholeOf (now (cells .entry)) (now (stack .entry)) regs) ⌝ }
+    ensures { λ r. ⌜ ((release : ℕ) → executedOf (now (cells .exit)) (now (stack .exit)) regs r ≡ executeOf upd17132 (now (rom .entry)) (inputAt (now (pins .entry)) (now (directions .entry)) release) instruction (wholeOf (now (cells .entry)) (now (stack .entry)) regs)) ⌝ }
 {
-    let pins = input.pins;
-    let directions = input.directions;
     match instruction {
         Instruction::AluRegister { op, r, m } => {
-            data::alu_register(cells, &pins, &directions, op, r, m);
+            data::alu_register(cells, pins, directions, op, r, m);
             Moved::To(flow::onward(regs, false))
         }
         Instruction::AluImmediate { op, m, n4 } => {
-            data::alu_immediate(cells, &pins, &directions, op, m, n4);
+            data::alu_immediate(cells, pins, directions, op, m, n4);
             Moved::To(flow::onward(regs, false))
         }
         Instruction::Skip { op, m, n4 } => {
-            let skips = data::skip(cells, &pins, &directions, op, m, n4);
+            let skips = data::skip(cells, pins, directions, op, m, n4);
             Moved::To(flow::onward(regs, skips))
         }
         Instruction::Rorc(r) => {
-            data::rorc(cells, &pins, &directions, r);
+            data::rorc(cells, pins, directions, r);
             Moved::To(flow::onward(regs, false))
         }
         Instruction::Ld { r, m } => {
-            data::ld(cells, &pins, &directions, r, m);
+            data::ld(cells, pins, directions, r, m);
             Moved::To(flow::onward(regs, false))
         }
         Instruction::St { m, r } => {
-            data::st(cells, &pins, &directions, m, r);
+            data::st(cells, pins, directions, m, r);
             Moved::To(flow::onward(regs, false))
         }
         Instruction::MovToIndirect { r, m } => {
-            data::mov_to(cells, &pins, &directions, r, m);
+            data::mov_to(cells, pins, directions, r, m);
             Moved::To(flow::onward(regs, false))
         }
         Instruction::MovFromIndirect { m, r } => {
-            data::mov_from(cells, &pins, &directions, m, r);
+            data::mov_from(cells, pins, directions, m, r);
             Moved::To(flow::onward(regs, false))
         }
         Instruction::MovImmediate { m, n4 } => {

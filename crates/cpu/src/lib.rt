@@ -98,12 +98,6 @@ enum Fetched {
     Past,
 }
 
-// A step's answer and the registers after it, the cells and the stack apart.
-struct Advanced {
-    answer: Answer,
-    regs: Regs,
-}
-
 // How far a run went: the steps completed, the last step's answer, and the machine.
 struct Gone {
     steps: u32,

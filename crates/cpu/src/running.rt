@@ -9,6 +9,7 @@ use crate::End;
 use crate::Gone;
 use crate::Input;
 use crate::Machine;
+use crate::Moved;
 use crate::Ran;
 use crate::Refusal;
 use crate::Report;
@@ -17,6 +18,7 @@ use crate::ranges;
 use crate::stepping::advance;
 use crate::stepping::join;
 use crate::stepping::regs_of;
+use crate::stepping::stays;
 
 // How a run ends whose last step was not completed.
 fn end_of(answer: Answer) -> End
@@ -56,18 +58,24 @@ fn go(rom: &[u16], machine: Machine, input: Input, budget: u32) -> Gone
     let mut cells = memory.cells;
     let mut stack = control.stack;
     let mut regs = regs_of(control);
+    if stays(regs, input.release) {
+        return went(0, Answer::Standby, machine);
+    }
+    let pins = input.pins;
+    let directions = input.directions;
     let mut steps: u32 = 0;
     while steps < budget {
-        let after = advance(rom, &mut cells, &mut stack, regs, input);
-        let answer = after.answer;
-        let next = after.regs;
-        let Answer::Done = answer else {
-            return went(steps, answer, join(cells, stack, next));
-        };
-        steps += 1;
-        regs = next;
-        if next.standby {
-            return went(steps, Answer::Done, join(cells, stack, next));
+        match advance(rom, &mut cells, &mut stack, regs, &pins, &directions) {
+            Moved::To(next) => {
+                steps += 1;
+                regs = next;
+                if next.standby {
+                    return went(steps, Answer::Done, join(cells, stack, next));
+                }
+            }
+            Moved::Refused(refusal) => {
+                return went(steps, Answer::Refused(refusal), join(cells, stack, regs));
+            }
         }
     }
     went(steps, Answer::Done, join(cells, stack, regs))

@@ -1,78 +1,72 @@
-use mathlib.Core.Path.{_≡_, refl, sym, _∙_, ap, subst}
-use mathlib.Core.Bool.{true}
+use mathlib.Core.Path.{_≡_, sym, _∙_, ap, subst}
+use mathlib.Core.Bool.{true, false, _&&_}
 use mathlib.Core.List.{List}
-use Prim.Native.Nat.{ℕ, _≤_, _-_}
+use Prim.Native.Nat.{ℕ, _-_}
 use native.Mathlib.Omega.{arith}
 use borrow.Author.Needs.{needs}
 use borrow.Author.Tests.{not-true, not-false}
-use lib.Dec.{lit≤}
+use lib.Dec.{eqb, lit≤}
 use Rattle.memory.specs.Chip.{upd17132}
-use Rattle.cpu.specs.Answers.{Step, replyOf}
+use Rattle.cpu.specs.Answers.{Reply}
+use Rattle.cpu.specs.Inside.{inputAt}
 use Rattle.cpu.specs.Parts.{wholeOf, machineOf, cellsOf}
-use Rattle.cpu.specs.Ranges.{allInRange, machineInRange}
-use Rattle.cpu.specs.Run.{runFrom, runOf}
-use Rattle.cpu.specs.Step.{advanceOf, stepOf, completed}
+use Rattle.cpu.specs.Ranges.{allInRange}
 use Rattle.cpu.specs.declared.Control.{Control}
 use Rattle.cpu.specs.declared.Input.{Input}
 use Rattle.cpu.specs.declared.Machine.{Machine}
 use Rattle.cpu.proofs.ArFits.{ar-fits}
 use Rattle.cpu.proofs.Inside.{all-parts, machine-parts, control-parts}
-use Rattle.cpu.proofs.NotDone.{not-done}
-use Rattle.cpu.proofs.Ranged.{advances}
-use Rattle.cpu.proofs.Turns.{all-of, step-advances, step-refused, goes-on, stands, breaks-off, used-up, begins, budget-refused, range-refused}
+use Rattle.cpu.proofs.Loop.{Going, Ends, not-so-many, not-in-range, stays-so, begun, used, stood, refuses, going}
 use Rattle.cpu.proofs.running.go.Statement.{statement}
 use Rattle.cpu.proofs.running.go.Tie as tie
 
--- everything is in range, what is left of the run is the whole run, and after no step and after one the machine is known
 abbrev Inv-loop : tie.InvT-loop
-Inv-loop rom input budget cells₀ stack₀ regs₀ steps₀ cells stack regs steps = (steps ≤ budget) × (machineInRange upd17132 (wholeOf cells stack regs) ≡ true) × (runFrom upd17132 rom input (budget - steps) steps (wholeOf cells stack regs) ≡ runFrom upd17132 rom input budget 0 (wholeOf cells₀ stack₀ regs₀)) × (steps ≡ 0 → wholeOf cells stack regs ≡ wholeOf cells₀ stack₀ regs₀) × (steps ≡ 1 → completed (wholeOf cells stack regs) ≡ stepOf upd17132 rom input (wholeOf cells₀ stack₀ regs₀))
+Inv-loop rom budget cells₀ stack₀ regs₀ pins directions steps₀ cells stack regs steps = (release : ℕ) → allInRange upd17132 rom (wholeOf cells₀ stack₀ regs₀) (inputAt pins directions release) ≡ true → (regs₀ .standby && eqb release 0) ≡ false → Going upd17132 rom (inputAt pins directions release) budget (wholeOf cells₀ stack₀ regs₀) steps (wholeOf cells stack regs)
 
 abbrev μ-loop : tie.MeasureT-loop
-μ-loop rom input budget cells₀ stack₀ regs₀ steps₀ cells stack regs steps = budget - steps
+μ-loop rom budget cells₀ stack₀ regs₀ pins directions steps₀ cells stack regs steps = budget - steps
 
 -- at the loop's head
 module _ (h : tie.At-loop Inv-loop μ-loop) where
   abbrev rom : List ℕ
-  rom = h .before .before .before .before .before .before .before .before .before .before .args .rom .now
+  rom = h .before .before .before .before .before .before .before .before .before .before .before .before .before .before .args .rom .now
 
   abbrev input : Input
-  input = h .before .before .before .before .before .before .before .before .before .before .args .input
+  input = h .before .before .before .before .before .before .before .before .before .before .before .before .before .before .args .input
 
-  abbrev start : Machine
-  start = h .before .before .before .before .before .before .before .before .before .before .args .machine
+  abbrev machine : Machine
+  machine = h .before .before .before .before .before .before .before .before .before .before .before .before .before .before .args .machine
 
   abbrev budget : ℕ
-  budget = h .before .before .before .before .before .before .before .before .before .before .args .budget
+  budget = h .before .before .before .before .before .before .before .before .before .before .before .before .before .before .args .budget
+
+  abbrev start : Machine
+  start = wholeOf (machine .memory .cells) (machine .control .stack) (h .before .before .before .before .before .regs-of .result)
 
   abbrev here : Machine
   here = wholeOf (h .loop .cells) (h .loop .stack) (h .loop .regs)
 
+  whole : start ≡ machine
+  whole = ap (λ (k : Control). machineOf (cellsOf machine) k) (h .before .before .before .before .before .regs-of .ensures)
+
   passed : allInRange upd17132 rom start input ≡ true
-  passed = sym (h .before .before .before .before .before .before .before .all .ensures) ∙ not-false _ (h .before .before .before .before .before .before .if2 .left)
+  passed =
+      subst (λ (m : Machine). allInRange upd17132 rom m input ≡ true) (sym whole)
+      (sym (h .before .before .before .before .before .before .before .before .before .before .before .all .ensures) ∙ not-false _ (h .before .before .before .before .before .before .before .before .before .before .if2 .left))
 
-  all-here : allInRange upd17132 rom here input ≡ true
-  all-here =
-      let p = all-parts upd17132 rom start input passed in
-      all-of upd17132 rom input here (h .loop .inv .1) (p .1 .0) (p .1 .1)
+  head : Going upd17132 rom input budget start (h .loop .steps) here
+  head = h .loop .inv (input .release) passed (sym (h .before .before .before .before .stays .ensures) ∙ h .before .before .before .if3 .left)
 
-  whole-run : runFrom upd17132 rom input (budget - h .loop .steps) (h .loop .steps) here ≡ runOf upd17132 rom input budget start
-  whole-run =
-      h .loop .inv .2
-      ∙ ap (λ (k : Control). runFrom upd17132 rom input budget 0 (machineOf (cellsOf start) k)) (h .before .regs-of .ensures)
-      ∙ begins upd17132 rom input budget start (omega arith) passed
-
-  -- the first step
-  first : (s : Step) → s ≡ advanceOf upd17132 rom input here → h .loop .steps ≡ 0 → s ≡ stepOf upd17132 rom input start
-  first s e z =
-      e ∙ sym (step-advances upd17132 rom input here all-here)
-      ∙ ap (stepOf upd17132 rom input) (h .loop .inv .3 z)
-      ∙ ap (λ (k : Control). stepOf upd17132 rom input (machineOf (cellsOf start) k)) (h .before .regs-of .ensures)
+  ends : (steps : ℕ) (r : Reply) (m : Machine) → Ends upd17132 rom input budget start steps r m → Ends upd17132 rom input budget machine steps r m
+  ends steps r m e = subst (λ (x : Machine). Ends upd17132 rom input budget x steps r m) whole e
 
 went-requires : tie.Need-went-requires Inv-loop μ-loop
 went-requires c κs = search needs
 
 returns : tie.Need-returns Inv-loop μ-loop
-returns c = rw (c .went .ensures) (budget-refused _ _ _ _ _ (c .before .if1 .taken), λ one. absurd (omega arith))
+returns c =
+    let e = not-so-many _ _ _ _ _ (c .before .if1 .taken) in
+    rw (c .went .ensures) (e .run, e .step)
 
 all-requires : tie.Need-all-requires Inv-loop μ-loop
 all-requires c κs = search needs
@@ -82,93 +76,86 @@ went-requires-2 c κs = search needs
 
 returns-2 : tie.Need-returns-2 Inv-loop μ-loop
 returns-2 c =
-    let r = sym (c .before .before .all .ensures) ∙ not-true _ (c .before .if2 .taken) in
-    rw (c .went2 .ensures) (range-refused _ _ _ _ _ r, λ one. step-refused _ _ _ _ r)
+    let e = not-in-range _ _ _ _ _ (sym (c .before .before .all .ensures) ∙ not-true _ (c .before .if2 .taken)) in
+    rw (c .went2 .ensures) (e .run, e .step)
 
 regs-of-requires : tie.Need-regs-of-requires Inv-loop μ-loop
 regs-of-requires c κs = search needs
 
-loop-holds : tie.Need-loop-holds Inv-loop μ-loop
-loop-holds c =
-    let s = c .before .before .before .before .before .before .before .before .before .args in
-    let p = all-parts upd17132 (s .rom .now) (s .machine) (s .input) (sym (c .before .before .before .before .before .before .all .ensures) ∙ not-false _ (c .before .before .before .before .before .if2 .left)) in
-    let e : s .budget - 0 ≡ s .budget = omega arith in (
-      omega arith,
-      subst (λ (k : Control). machineInRange upd17132 (machineOf (cellsOf (s .machine)) k) ≡ true) (sym (c .regs-of .ensures)) (p .0),
-      rw e,
-      λ z. refl,
-      λ one. absurd (omega arith),
-    )
-
-advance-requires : tie.Need-advance-requires Inv-loop μ-loop
-advance-requires c κs =
-    let h = c .before .before .before in
-    control-parts upd17132 _ (machine-parts upd17132 (here h) (h .loop .inv .1) .1) .1 .0
-
-enum-told : tie.Need-enum-told Inv-loop μ-loop
-enum-told c = search needs
-
-join-requires : tie.Need-join-requires Inv-loop μ-loop
-join-requires c κs = search needs
+stays-requires : tie.Need-stays-requires Inv-loop μ-loop
+stays-requires c κs = search needs
 
 went-requires-3 : tie.Need-went-requires-3 Inv-loop μ-loop
 went-requires-3 c κs = search needs
 
 returns-3 : tie.Need-returns-3 Inv-loop μ-loop
 returns-3 c =
-    let h = c .before .before .before .before .before .before .before .before in
-    let a = c .before .before .before .before .advance in
-    rw (c .went3 .ensures, c .before .join .ensures) (
-      sym (breaks-off _ _ _ _ _ (c .before .before .before .before .before .before .before .loop-test .taken) _ (all-here h) (replyOf (a .result .answer)) _ (a .ensures) (not-done (a .result .answer) (c .before .before .match .keys2))) ∙ whole-run h,
-      λ one. first h _ (a .ensures) (omega (arith, c .before .before .before .before .before .before .before .loop-test .taken)),
-    )
+    let s = c .before .before .before .before .before .before .before .before .before .before .before .before .args in
+    let stand : (s .machine .control .standby && eqb (s .input .release) 0) ≡ true
+    = ap (λ (k : Control). k .standby && eqb (s .input .release) 0) (sym (c .before .before .before .regs-of .ensures)) ∙ sym (c .before .before .stays .ensures) ∙ c .before .if3 .taken in
+    let e = stays-so upd17132 (s .rom .now) (s .input) (s .budget) (s .machine) (omega arith) (sym (c .before .before .before .before .before .before .before .before .before .all .ensures) ∙ not-false _ (c .before .before .before .before .before .before .before .before .if2 .left)) stand in
+    rw (c .went3 .ensures) (e .run, e .step)
+
+loop-holds : tie.Need-loop-holds Inv-loop μ-loop
+loop-holds c = λ release fine awake. begun _ _ _ _ _ (omega arith) fine awake
+
+advance-requires : tie.Need-advance-requires Inv-loop μ-loop
+advance-requires c κs =
+    let h = c .before .before .before .before .before in
+    control-parts upd17132 _ (machine-parts upd17132 (here h) (all-parts upd17132 (rom h) (here h) (input h) (head h .fine) .0) .1) .1 .0
+
+enum-known-next : tie.Need-enum-known-next Inv-loop μ-loop
+enum-known-next c = search needs
 
 add-steps : tie.Need-add-steps Inv-loop μ-loop
 add-steps c = search needs
 
-join-requires-2 : tie.Need-join-requires-2 Inv-loop μ-loop
-join-requires-2 c κs = search needs
+join-requires : tie.Need-join-requires Inv-loop μ-loop
+join-requires c κs = search needs
 
 went-requires-4 : tie.Need-went-requires-4 Inv-loop μ-loop
 went-requires-4 c κs = search needs
 
 returns-4 : tie.Need-returns-4 Inv-loop μ-loop
 returns-4 c =
-    let h = c .before .before .before .before .before .before .before .before .before .before in
-    let e = rw (c .before .before .before .enum-told .given .1) at (c .before .before .before .before .before .before .advance .ensures) in
-    rw (c .went4 .ensures, c .before .join2 .ensures) (
-      sym (stands _ _ _ _ _ (c .before .before .before .before .before .before .before .before .before .loop-test .taken) _ (all-here h) _ e (c .before .before .if3 .taken)) ∙ whole-run h,
-      λ one. first h _ e (omega (arith, c .before .before .before .before .before .before .before .before .before .loop-test .taken)),
-    )
+    let h = c .before .before .before .before .before .before .before .before .before .before .before .before in
+    let e = ends h _ _ _ (stood _ _ _ _ _ _ _ (head h) (c .before .before .before .before .before .before .before .before .before .before .before .loop-test .taken) _ (rw (c .before .before .before .before .next .given .1) at (c .before .before .before .before .before .before .advance .ensures (input h .release) (head h .awake))) (c .before .before .if4 .taken)) in
+    rw (c .went4 .ensures, c .before .join .ensures) (e .run, e .step)
 
 loop-less : tie.Need-loop-less Inv-loop μ-loop
 loop-less c = omega arith
 
 loop-again : tie.Need-loop-again Inv-loop μ-loop
-loop-again c =
-    let h = c .before .before .before .before .before .before .before .before in
-    let e = rw (c .before .enum-told .given .1) at (c .before .before .before .before .advance .ensures) in (
-      omega arith,
-      subst (λ (m : Machine). machineInRange upd17132 m ≡ true) (sym (ap (λ (x : Step). x .machine) e))
-          (advances upd17132 (lit≤ tt) ar-fits (rom h) (input h) (here h) (h .loop .inv .1)),
-      sym (goes-on _ _ _ _ _ (c .before .before .before .before .before .before .before .loop-test .taken) _ (all-here h) _ e (c .if3 .left)) ∙ h .loop .inv .2,
-      λ z. absurd (omega arith),
-      λ one. e ∙ sym (step-advances upd17132 (rom h) (input h) (here h) (all-here h)) ∙ ap (stepOf upd17132 (rom h) (input h)) (h .loop .inv .3 (omega arith)),
-    )
+loop-again c = λ release fine awake.
+    let g = c .before .before .before .before .before .before .before .before .before .before .loop .inv release fine awake in
+    going _ _ _ _ _ _ _ g (c .before .before .before .before .before .before .before .before .before .loop-test .taken) (lit≤ tt) ar-fits _ (rw (c .before .before .next .given .1) at (c .before .before .before .before .advance .ensures release (g .awake))) (c .if4 .left)
 
-join-requires-3 : tie.Need-join-requires-3 Inv-loop μ-loop
-join-requires-3 c κs = search needs
+enum-known-refusal : tie.Need-enum-known-refusal Inv-loop μ-loop
+enum-known-refusal c = search needs
+
+join-requires-2 : tie.Need-join-requires-2 Inv-loop μ-loop
+join-requires-2 c κs = search needs
 
 went-requires-5 : tie.Need-went-requires-5 Inv-loop μ-loop
 went-requires-5 c κs = search needs
 
 returns-5 : tie.Need-returns-5 Inv-loop μ-loop
 returns-5 c =
+    let h = c .before .before .before .before .before .before .before .before .before .before .before in
+    let e = ends h _ _ _ (refuses _ _ _ _ _ _ _ (head h) (c .before .before .before .before .before .before .before .before .before .before .loop-test .taken) _ _ (rw (c .before .before .before .refusal .given .1) at (c .before .before .before .before .before .advance .ensures (input h .release) (head h .awake)))) in
+    rw (c .went5 .ensures, c .before .join2 .ensures) (e .run, e .step)
+
+join-requires-3 : tie.Need-join-requires-3 Inv-loop μ-loop
+join-requires-3 c κs = search needs
+
+went-requires-6 : tie.Need-went-requires-6 Inv-loop μ-loop
+went-requires-6 c κs = search needs
+
+returns-6 : tie.Need-returns-6 Inv-loop μ-loop
+returns-6 c =
     let h = c .before .before .before in
-    rw (c .went5 .ensures, c .before .join3 .ensures) (
-      sym (used-up _ _ _ _ _ _ (c .before .before .loop-test .left)) ∙ whole-run h,
-      λ one. h .loop .inv .4 (omega arith) ∙ ap (λ (k : Control). stepOf upd17132 (rom h) (input h) (machineOf (cellsOf (start h)) k)) (h .before .regs-of .ensures),
-    )
+    let e = ends h _ _ _ (used _ _ _ _ _ _ _ (head h) (c .before .before .loop-test .left)) in
+    rw (c .went6 .ensures, c .before .join3 .ensures) (e .run, e .step)
 
 pub go-spec : {M : Type 1} → statement M
 go-spec =
@@ -182,18 +169,22 @@ go-spec =
     went-requires-2
     returns-2
     regs-of-requires
-    loop-holds
-    advance-requires
-    enum-told
-    join-requires
+    stays-requires
     went-requires-3
     returns-3
+    loop-holds
+    advance-requires
+    enum-known-next
     add-steps
-    join-requires-2
+    join-requires
     went-requires-4
     returns-4
     loop-less
     loop-again
-    join-requires-3
+    enum-known-refusal
+    join-requires-2
     went-requires-5
-    returns-5)
+    returns-5
+    join-requires-3
+    went-requires-6
+    returns-6)
