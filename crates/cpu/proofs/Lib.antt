@@ -6,5 +6,5 @@ pub mod Levels
 pub mod Ranged
 pub mod ArFits
 pub mod Turns
-pub mod NotDone
+pub mod Loop
 pub mod Answers

@@ -14,17 +14,21 @@ use Rattle.isa.specs.declared.FixedOp.the-variants.{IncAr, IncIx, Movt, PushAr,
 use Rattle.isa.specs.declared.Instruction.{Instruction}
 use Rattle.isa.specs.declared.Instruction.the-variants.{AluRegister, AluImmediate, Skip, Rorc, Ld, St, MovToIndirect, MovFromIndirect, MovImmediate, Peek, Poke, Get, Put, Br, Call, Stop, Halt, Fixed}
 use Rattle.memory.specs.Chip.{Chip}
-use Rattle.cpu.specs.Answers.{Reply, done, inStandby, refused, Step}
+use Rattle.cpu.specs.Answers.{Reply, done, inStandby, refused, numberOf, Step}
 use Rattle.memory.specs.Registers.{arOf}
-use Rattle.cpu.specs.Control.{Transfer, controlOf}
+use Rattle.cpu.specs.Control.{Transfer, controlOf, marked}
 use Rattle.cpu.specs.Data.{skipsOf}
-use Rattle.cpu.specs.Parts.{cellsOf, machineOf}
-use Rattle.cpu.specs.Inside.{fetchedOf}
+use Rattle.cpu.specs.Parts.{cellsOf, machineOf, withStack, wholeOf}
+use Rattle.cpu.specs.Inside.{fetchedOf, executedOf}
 use Rattle.cpu.specs.Step.{denied, completed, dataOf, writtenOf, pastTable, woken, leaving, inBase, runnable, runsOf, executeOf, decodedOf, passOver, fetchOf, advanceOf}
+use Rattle.cpu.specs.declared.Control.{Control}
 use Rattle.cpu.specs.declared.Fetched.{Fetched}
 use Rattle.cpu.specs.declared.Fetched.the-variants.{Word, Past}
 use Rattle.cpu.specs.declared.Input.{Input}
 use Rattle.cpu.specs.declared.Machine.{Machine}
+use Rattle.cpu.specs.declared.Moved.{Moved}
+use Rattle.cpu.specs.declared.Moved.the-variants.{To, Refused}
+use Rattle.cpu.specs.declared.Regs.{Regs}
 
 -- what a fetch that is taken apart says
 fetched-past : (b : Bool) (w : ℕ) → cond b Past (Word w) ≡ Past → b ≡ true
@@ -109,7 +113,7 @@ module _ (chip : Chip) (rom : List ℕ) (input : Input) where
       settled-kept (eqb (s .refusal) 0) (pastTable rom (arOf (cellsOf m)) i) m
       (machineOf (writtenOf chip rom input i m) (s .control)) (s .refusal) n e
 
-  pub refused-kept : (i : Instruction) (m left : Machine) (n : ℕ) → denied n left ≡ executeOf chip rom input i m → left ≡ m
+  refused-kept : (i : Instruction) (m left : Machine) (n : ℕ) → denied n left ≡ executeOf chip rom input i m → left ≡ m
   refused-kept i m left n e =
       ap (λ (s : Step). s .machine) e ∙ executed-kept i m n (sym (ap (λ (s : Step). s .reply) e))
 
@@ -151,3 +155,23 @@ module _ (chip : Chip) (rom : List ℕ) (input : Input) where
               (rw inside
               (e ∙ runs i (woken m) ∙ ap (λ (x : Decoding). decodedOf chip rom input (woken m) (runnable x)) (sym d)
               ∙ other (m .control .skip) _ _ plain))
+
+-- an instruction is carried out, or refused, on a machine that does not stay in standby
+module _ (chip : Chip) (rom : List ℕ) (input : Input) (cells stack : List ℕ) (regs awake : Regs)
+    (up : withStack stack awake ≡ marked (regs .skip) false (withStack stack regs)) where
+  abbrev before : Machine
+  before = wholeOf cells stack regs
+
+  same-step : (i : Instruction) → executeOf chip rom input i (wholeOf cells stack awake) ≡ executeOf chip rom input i (woken before)
+  same-step i = ap (λ (k : Control). executeOf chip rom input i (machineOf cells k)) up
+
+  module _ (goes : (regs .standby && eqb (input .release) 0) ≡ false) (inside : leb (length rom) (regs .pc) ≡ false)
+      (plain : regs .skip ≡ false) (i : Instruction) (is-it : decodeOf (getD rom (regs .pc) 0) ≡ is i) where
+    pub carried-out : (q : Moved) (after left : List ℕ) → executedOf after left awake q ≡ executeOf chip rom input i (wholeOf cells stack awake)
+        → executedOf after left regs q ≡ advanceOf chip rom input before
+    carried-out (To r) after left e =
+        executed chip rom input before goes inside plain i (completed (wholeOf after left r)) is-it (e ∙ same-step i)
+    carried-out (Refused q) after left e =
+        ap (λ (m : Machine). denied (numberOf q) (wholeOf (cellsOf m) (m .control .stack) regs))
+        (refused-kept chip rom input i (wholeOf cells stack awake) (wholeOf after left awake) (numberOf q) e)
+        ∙ executed chip rom input before goes inside plain i (denied (numberOf q) (wholeOf after left awake)) is-it (e ∙ same-step i)

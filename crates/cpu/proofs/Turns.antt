@@ -12,7 +12,7 @@ use Rattle.cpu.specs.Answers.{Reply, done, inStandby, refused, costOf, r
 use Rattle.cpu.specs.Control.{isStandby}
 use Rattle.cpu.specs.Ranges.{machineInRange, inputInRange, romInRange, allInRange, budgetInRange}
 use Rattle.cpu.specs.Run.{runFrom, runOf, afterStep, ended}
-use Rattle.cpu.specs.Step.{stepOf, advanceOf}
+use Rattle.cpu.specs.Step.{stepOf, advanceOf, denied}
 use Rattle.cpu.specs.declared.Input.{Input}
 use Rattle.cpu.specs.declared.Machine.{Machine}
 
@@ -25,6 +25,10 @@ module _ (chip : Chip) (rom : List ℕ) (input : Input) where
   pub step-advances : (m : Machine) → allInRange chip rom m input ≡ true → stepOf chip rom input m ≡ advanceOf chip rom input m
   unfolding stepOf
   step-advances m e = rw e
+
+  pub step-refused : (m : Machine) → allInRange chip rom m input ≡ false → denied 1 m ≡ stepOf chip rom input m
+  unfolding stepOf
+  step-refused m e = rw e
 
   -- a turn on a machine in range, by the step that it takes
   turn : (left steps : ℕ) (m : Machine) (s : Step) → s ≡ stepOf chip rom input m

@@ -8,14 +8,14 @@ use lib.ListN.{getD, length}
 use Rattle.isa.specs.declared.Instruction.{Instruction}
 use Rattle.memory.specs.Chip.{Chip}
 use Rattle.memory.specs.Write.{writesApplied}
-use Rattle.cpu.specs.Answers.{Step, replyOf, numberOf}
+use Rattle.cpu.specs.Answers.{Step, numberOf}
 use Rattle.cpu.specs.Control.{Transfer, goes, denies}
 use Rattle.cpu.specs.Data.{Data, writesOf}
 use Rattle.cpu.specs.Parts.{withStack, wholeOf}
 use Rattle.cpu.specs.Step.{completed, denied}
-use Rattle.cpu.specs.declared.Advanced.{Advanced}
 use Rattle.cpu.specs.declared.Fetched.{Fetched}
 use Rattle.cpu.specs.declared.Fetched.the-variants.{Word, Past}
+use Rattle.cpu.specs.declared.Input.{Input}
 use Rattle.cpu.specs.declared.Moved.{Moved}
 use Rattle.cpu.specs.declared.Moved.the-variants.{To, Refused}
 use Rattle.cpu.specs.declared.Regs.{Regs}
@@ -30,8 +30,9 @@ abbrev pub executedOf : List ℕ → List ℕ → Regs → Moved → Step
 executedOf cells stack before (To r) = completed (wholeOf cells stack r)
 executedOf cells stack before (Refused q) = denied (numberOf q) (wholeOf cells stack before)
 
-abbrev pub advancedOf : List ℕ → List ℕ → Advanced → Step
-advancedOf cells stack a = record { reply = replyOf (a .answer); machine = wholeOf cells stack (a .regs) }
+-- an input record put together
+abbrev pub inputAt : List ℕ → List ℕ → ℕ → Input
+inputAt pins directions release = record { pins = pins; directions = directions; release = release }
 
 abbrev pub dataAt : List ℕ → List ℕ → List ℕ → Data
 dataAt cells pins directions = record { cells = cells; pins = pins; directions = directions }

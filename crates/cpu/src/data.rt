@@ -29,15 +29,15 @@ fn store_arithmetic(cells: &mut [u8; 128], at: u8, o: Outcome)
 {
     let psw = flags_after(&*cells, o);
     if memory::is_set(&*cells, Memory::PSW, Memory::CMP) {
-        *cells = memory::write(*cells, Memory::PSW, psw);
+        memory::store(cells, Memory::PSW, psw);
         return;
     }
     if at == Memory::PSW {
-        *cells = memory::write(*cells, Memory::PSW, o.result);
+        memory::store(cells, Memory::PSW, o.result);
         return;
     }
-    *cells = memory::write(*cells, at, o.result);
-    *cells = memory::write(*cells, Memory::PSW, psw);
+    memory::store(cells, at, o.result);
+    memory::store(cells, Memory::PSW, psw);
 }
 
 // The result of an operation: arithmetic sets flags, logic does not.
@@ -50,20 +50,20 @@ fn store_result(cells: &mut [u8; 128], op: AluOp, at: u8, o: Outcome)
         AluOp::Sub => store_arithmetic(cells, at, o),
         AluOp::SubC => store_arithmetic(cells, at, o),
         AluOp::Or => {
-            *cells = memory::write(*cells, at, o.result);
+            memory::store(cells, at, o.result);
         }
         AluOp::And => {
-            *cells = memory::write(*cells, at, o.result);
+            memory::store(cells, at, o.result);
         }
         AluOp::Xor => {
-            *cells = memory::write(*cells, at, o.result);
+            memory::store(cells, at, o.result);
         }
     }
 }
 
 // An operation on what stands at an address and a second operand.
-fn operate(cells: &mut [u8; 128], pins: [u8; 5], directions: [u8; 5], op: AluOp, at: u8, b: u8)
-    ensures { λ _. ⌜ now (cells .exit) ≡ writesApplied upd17132 (now (cells .entry)) (aluWrites upd17132 (dataAt (now (cells .entry)) pins directions) op at b) ⌝ }
+fn operate(cells: &mut [u8; 128], pins: &[u8; 5], directions: &[u8; 5], op: AluOp, at: u8, b: u8)
+    ensures { λ _. ⌜ now (cells .exit) ≡ writesApplied upd17132 (now (cells .entry)) (aluWrites upd17132 (dataAt (now (cells .entry)) (now (pins .entry)) (now (directions .entry))) op at b) ⌝ }
 {
     let a = memory::read(&*cells, pins, directions, at);
     let bcd = memory::is_set(&*cells, Memory::RPL, Memory::BCD);
@@ -74,13 +74,13 @@ fn operate(cells: &mut [u8; 128], pins: [u8; 5], directions: [u8; 5], op: AluOp,
 
 pub fn alu_register(
     cells: &mut [u8; 128],
-    pins: [u8; 5],
-    directions: [u8; 5],
+    pins: &[u8; 5],
+    directions: &[u8; 5],
     op: AluOp,
     r: u8,
     m: u8,
 )
-    ensures { λ _. ⌜ now (cells .exit) ≡ writtenBy upd17132 (dataAt (now (cells .entry)) pins directions) (Instruction.AluRegister op r m) ⌝ }
+    ensures { λ _. ⌜ now (cells .exit) ≡ writtenBy upd17132 (dataAt (now (cells .entry)) (now (pins .entry)) (now (directions .entry))) (Instruction.AluRegister op r m) ⌝ }
 {
     let at = memory::register(&*cells, r);
     let from = memory::address(&*cells, m);
@@ -90,13 +90,13 @@ pub fn alu_register(
 
 pub fn alu_immediate(
     cells: &mut [u8; 128],
-    pins: [u8; 5],
-    directions: [u8; 5],
+    pins: &[u8; 5],
+    directions: &[u8; 5],
     op: AluOp,
     m: u8,
     n4: u8,
 )
-    ensures { λ _. ⌜ now (cells .exit) ≡ writtenBy upd17132 (dataAt (now (cells .entry)) pins directions) (Instruction.AluImmediate op m n4) ⌝ }
+    ensures { λ _. ⌜ now (cells .exit) ≡ writtenBy upd17132 (dataAt (now (cells .entry)) (now (pins .entry)) (now (directions .entry))) (Instruction.AluImmediate op m n4) ⌝ }
 {
     let at = memory::address(&*cells, m);
     operate(cells, pins, directions, op, at, n4);
@@ -109,11 +109,11 @@ fn clear_cmp(cells: &mut [u8; 128], op: SkipOp)
     match op {
         SkipOp::Skt => {
             let psw = memory::with_flag(cells[Memory::PSW as usize], Memory::CMP, false);
-            *cells = memory::write(*cells, Memory::PSW, psw);
+            memory::store(cells, Memory::PSW, psw);
         }
         SkipOp::Skf => {
             let psw = memory::with_flag(cells[Memory::PSW as usize], Memory::CMP, false);
-            *cells = memory::write(*cells, Memory::PSW, psw);
+            memory::store(cells, Memory::PSW, psw);
         }
         SkipOp::Ske => {}
         SkipOp::Skne => {}
@@ -125,13 +125,13 @@ fn clear_cmp(cells: &mut [u8; 128], op: SkipOp)
 // A skip: whether its condition holds.
 pub fn skip(
     cells: &mut [u8; 128],
-    pins: [u8; 5],
-    directions: [u8; 5],
+    pins: &[u8; 5],
+    directions: &[u8; 5],
     op: SkipOp,
     m: u8,
     n4: u8,
 ) -> bool
-    ensures { λ r. ⌜ (now (cells .exit) ≡ writtenBy upd17132 (dataAt (now (cells .entry)) pins directions) (Instruction.Skip op m n4)) × (r ≡ skipsOf upd17132 (dataAt (now (cells .entry)) pins directions) (Instruction.Skip op m n4)) ⌝ }
+    ensures { λ r. ⌜ (now (cells .exit) ≡ writtenBy upd17132 (dataAt (now (cells .entry)) (now (pins .entry)) (now (directions .entry))) (Instruction.Skip op m n4)) × (r ≡ skipsOf upd17132 (dataAt (now (cells .entry)) (now (pins .entry)) (now (directions .entry))) (Instruction.Skip op m n4)) ⌝ }
 {
     let at = memory::address(&*cells, m);
     let x = memory::read(&*cells, pins, directions, at);
@@ -139,70 +139,70 @@ pub fn skip(
     alu::skips(op, x, n4)
 }
 
-pub fn rorc(cells: &mut [u8; 128], pins: [u8; 5], directions: [u8; 5], r: u8)
-    ensures { λ _. ⌜ now (cells .exit) ≡ writtenBy upd17132 (dataAt (now (cells .entry)) pins directions) (Instruction.Rorc r) ⌝ }
+pub fn rorc(cells: &mut [u8; 128], pins: &[u8; 5], directions: &[u8; 5], r: u8)
+    ensures { λ _. ⌜ now (cells .exit) ≡ writtenBy upd17132 (dataAt (now (cells .entry)) (now (pins .entry)) (now (directions .entry))) (Instruction.Rorc r) ⌝ }
 {
     let to = memory::register(&*cells, r);
     let x = memory::read(&*cells, pins, directions, to);
     let carry = memory::is_set(&*cells, Memory::PSW, Memory::CY);
     let o = alu::rotate(x, carry);
     if to == Memory::PSW {
-        *cells = memory::write(*cells, Memory::PSW, o.result);
+        memory::store(cells, Memory::PSW, o.result);
         return;
     }
     let psw = memory::with_flag(cells[Memory::PSW as usize], Memory::CY, o.carry);
-    *cells = memory::write(*cells, to, o.result);
-    *cells = memory::write(*cells, Memory::PSW, psw);
+    memory::store(cells, to, o.result);
+    memory::store(cells, Memory::PSW, psw);
 }
 
-pub fn ld(cells: &mut [u8; 128], pins: [u8; 5], directions: [u8; 5], r: u8, m: u8)
-    ensures { λ _. ⌜ now (cells .exit) ≡ writtenBy upd17132 (dataAt (now (cells .entry)) pins directions) (Instruction.Ld r m) ⌝ }
+pub fn ld(cells: &mut [u8; 128], pins: &[u8; 5], directions: &[u8; 5], r: u8, m: u8)
+    ensures { λ _. ⌜ now (cells .exit) ≡ writtenBy upd17132 (dataAt (now (cells .entry)) (now (pins .entry)) (now (directions .entry))) (Instruction.Ld r m) ⌝ }
 {
     let at = memory::register(&*cells, r);
     let from = memory::address(&*cells, m);
     let x = memory::read(&*cells, pins, directions, from);
-    *cells = memory::write(*cells, at, x);
+    memory::store(cells, at, x);
 }
 
-pub fn st(cells: &mut [u8; 128], pins: [u8; 5], directions: [u8; 5], m: u8, r: u8)
-    ensures { λ _. ⌜ now (cells .exit) ≡ writtenBy upd17132 (dataAt (now (cells .entry)) pins directions) (Instruction.St m r) ⌝ }
+pub fn st(cells: &mut [u8; 128], pins: &[u8; 5], directions: &[u8; 5], m: u8, r: u8)
+    ensures { λ _. ⌜ now (cells .exit) ≡ writtenBy upd17132 (dataAt (now (cells .entry)) (now (pins .entry)) (now (directions .entry))) (Instruction.St m r) ⌝ }
 {
     let at = memory::address(&*cells, m);
     let from = memory::register(&*cells, r);
     let x = memory::read(&*cells, pins, directions, from);
-    *cells = memory::write(*cells, at, x);
+    memory::store(cells, at, x);
 }
 
 // The address of @r.
-fn pointer(cells: &[u8; 128], pins: [u8; 5], directions: [u8; 5], m: u8, r: u8) -> u8
-    ensures { λ a. ⌜ a ≡ atPointer upd17132 (dataAt (now (cells .entry)) pins directions) m r ⌝ }
+fn pointer(cells: &[u8; 128], pins: &[u8; 5], directions: &[u8; 5], m: u8, r: u8) -> u8
+    ensures { λ a. ⌜ a ≡ atPointer upd17132 (dataAt (now (cells .entry)) (now (pins .entry)) (now (directions .entry))) m r ⌝ }
 {
     let from = memory::register(cells, r);
     let column = memory::read(cells, pins, directions, from);
     memory::indirect(cells, m, column)
 }
 
-pub fn mov_to(cells: &mut [u8; 128], pins: [u8; 5], directions: [u8; 5], r: u8, m: u8)
-    ensures { λ _. ⌜ now (cells .exit) ≡ writtenBy upd17132 (dataAt (now (cells .entry)) pins directions) (Instruction.MovToIndirect r m) ⌝ }
+pub fn mov_to(cells: &mut [u8; 128], pins: &[u8; 5], directions: &[u8; 5], r: u8, m: u8)
+    ensures { λ _. ⌜ now (cells .exit) ≡ writtenBy upd17132 (dataAt (now (cells .entry)) (now (pins .entry)) (now (directions .entry))) (Instruction.MovToIndirect r m) ⌝ }
 {
     let at = pointer(&*cells, pins, directions, m, r);
     let from = memory::address(&*cells, m);
     let x = memory::read(&*cells, pins, directions, from);
-    *cells = memory::write(*cells, at, x);
+    memory::store(cells, at, x);
 }
 
-pub fn mov_from(cells: &mut [u8; 128], pins: [u8; 5], directions: [u8; 5], m: u8, r: u8)
-    ensures { λ _. ⌜ now (cells .exit) ≡ writtenBy upd17132 (dataAt (now (cells .entry)) pins directions) (Instruction.MovFromIndirect m r) ⌝ }
+pub fn mov_from(cells: &mut [u8; 128], pins: &[u8; 5], directions: &[u8; 5], m: u8, r: u8)
+    ensures { λ _. ⌜ now (cells .exit) ≡ writtenBy upd17132 (dataAt (now (cells .entry)) (now (pins .entry)) (now (directions .entry))) (Instruction.MovFromIndirect m r) ⌝ }
 {
     let at = memory::address(&*cells, m);
     let from = pointer(&*cells, pins, directions, m, r);
     let x = memory::read(&*cells, pins, directions, from);
-    *cells = memory::write(*cells, at, x);
+    memory::store(cells, at, x);
 }
 
 pub fn mov_immediate(cells: &mut [u8; 128], m: u8, n4: u8)
     ensures { λ _. ⌜ ((pins directions : List ℕ) → now (cells .exit) ≡ writtenBy upd17132 (dataAt (now (cells .entry)) pins directions) (Instruction.MovImmediate m n4)) ⌝ }
 {
     let at = memory::address(&*cells, m);
-    *cells = memory::write(*cells, at, n4);
+    memory::store(cells, at, n4);
 }

@@ -3,7 +3,7 @@ ghost use mathlib.Core.Path.{_≡_};
 ghost use mathlib.Core.List.{List};
 ghost use Prim.Native.Nat.{ℕ, _≤_};
 ghost use Rattle.memory.specs.Chip.{upd17132};
-ghost use Rattle.cpu.specs.Inside.{executedOf};
+ghost use Rattle.cpu.specs.Inside.{executedOf, inputAt};
 ghost use Rattle.cpu.specs.Parts.{wholeOf};
 ghost use Rattle.cpu.specs.Step.{executeOf};
 use crate::Input;
@@ -80,13 +80,12 @@ pub fn execute(
     cells: &mut [u8; 128],
     stack: &mut [u16; 5],
     regs: Regs,
-    input: Input,
+    pins: &[u8; 5],
+    directions: &[u8; 5],
 ) -> Moved
     requires { ⌜ regs .levels ≤ 5 ⌝ }
-    ensures { λ r. ⌜ executedOf (now (cells .exit)) (now (stack .exit)) regs r ≡ executeOf upd17132 (now (rom .entry)) input instruction (wholeOf (now (cells .entry)) (now (stack .entry)) regs) ⌝ }
+    ensures { λ r. ⌜ ((release : ℕ) → executedOf (now (cells .exit)) (now (stack .exit)) regs r ≡ executeOf upd17132 (now (rom .entry)) (inputAt (now (pins .entry)) (now (directions .entry)) release) instruction (wholeOf (now (cells .entry)) (now (stack .entry)) regs)) ⌝ }
 {
-    let pins = input.pins;
-    let directions = input.directions;
     match instruction {
         Instruction::AluRegister { op, r, m } => {
             data::alu_register(cells, pins, directions, op, r, m);

@@ -7,7 +7,7 @@ mod running;
 mod stepping;
 
 pub use running::run;
-pub use stepping::step;
+pub use running::step;
 ghost use mathlib.Core.Path.{_≡_};
 ghost use Rattle.cpu.specs.Parts.{resetMachine};
 use memory::Memory;
@@ -98,10 +98,11 @@ enum Fetched {
     Past,
 }
 
-// A step's answer and the registers after it, the cells and the stack apart.
-struct Advanced {
+// How far a run went: the steps completed, the last step's answer, and the machine.
+struct Gone {
+    steps: u32,
     answer: Answer,
-    regs: Regs,
+    machine: Machine,
 }
 
 impl Machine {

@@ -1,20 +1,24 @@
-// The counted run.
+// The counted run, and the step as its run of one.
 ghost use mathlib.Core.Path.{_≡_};
 ghost use Rattle.memory.specs.Chip.{upd17132};
-ghost use Rattle.cpu.specs.Answers.{endOf, refusalOf, replyOf, runOfRan};
+ghost use Rattle.cpu.specs.Answers.{endOf, refusalOf, replyOf, runOfRan, stepOfStepped};
 ghost use Rattle.cpu.specs.Run.{runOf, ended};
+ghost use Rattle.cpu.specs.Step.{stepOf};
 use crate::Answer;
 use crate::End;
+use crate::Gone;
 use crate::Input;
 use crate::Machine;
+use crate::Moved;
 use crate::Ran;
 use crate::Refusal;
-use crate::Regs;
 use crate::Report;
+use crate::Stepped;
 use crate::ranges;
 use crate::stepping::advance;
 use crate::stepping::join;
 use crate::stepping::regs_of;
+use crate::stepping::stays;
 
 // How a run ends whose last step was not completed.
 fn end_of(answer: Answer) -> End
@@ -27,46 +31,81 @@ fn end_of(answer: Answer) -> End
     }
 }
 
-fn report(steps: u32, end: End, machine: Machine) -> Ran
-    ensures { λ r. ⌜ runOfRan r ≡ ended steps (endOf end) machine ⌝ }
+fn went(steps: u32, answer: Answer, machine: Machine) -> Gone
+    ensures { λ r. ⌜ r ≡ record { steps = steps; answer = answer; machine = machine } ⌝ }
 {
-    Ran {
-        report: Report {
-            steps: steps,
-            end: end,
-        },
+    Gone {
+        steps: steps,
+        answer: answer,
         machine: machine,
     }
 }
 
-// Steps up to a refusal, standby or the budget. The range is tested once; each step keeps it.
-pub fn run(rom: &[u16], machine: Machine, input: Input, budget: u32) -> Ran
-    ensures { λ r. ⌜ runOfRan r ≡ runOf upd17132 (now (rom .entry)) input budget machine ⌝ }
+// Steps up to a refusal, standby or the budget. The range is tested once; each step keeps it. It serves the run and the
+// step, so that `advance` has one caller and is inlined there.
+fn go(rom: &[u16], machine: Machine, input: Input, budget: u32) -> Gone
+    ensures { λ r. ⌜ ended (r .steps) (refusalOf (replyOf (r .answer))) (r .machine) ≡ runOf upd17132 (now (rom .entry)) input budget machine ⌝ }
+    ensures { λ r. ⌜ (budget ≡ 1 → record { reply = replyOf (r .answer); machine = r .machine } ≡ stepOf upd17132 (now (rom .entry)) input machine) ⌝ }
 {
     if 65535 < budget {
-        return report(0, End::Refused(Refusal::OutOfRange), machine);
+        return went(0, Answer::Refused(Refusal::OutOfRange), machine);
     }
     if !ranges::all(rom, machine, input) {
-        return report(0, End::Refused(Refusal::OutOfRange), machine);
+        return went(0, Answer::Refused(Refusal::OutOfRange), machine);
     }
     let memory = machine.memory;
     let control = machine.control;
     let mut cells = memory.cells;
     let mut stack = control.stack;
     let mut regs = regs_of(control);
+    if stays(regs, input.release) {
+        return went(0, Answer::Standby, machine);
+    }
+    let pins = input.pins;
+    let directions = input.directions;
     let mut steps: u32 = 0;
     while steps < budget {
-        let after = advance(rom, &mut cells, &mut stack, regs, input);
-        let answer = after.answer;
-        let next = after.regs;
-        let Answer::Done = answer else {
-            return report(steps, end_of(answer), join(cells, stack, next));
-        };
-        steps += 1;
-        regs = next;
-        if next.standby {
-            return report(steps, End::Completed, join(cells, stack, next));
+        match advance(rom, &mut cells, &mut stack, regs, &pins, &directions) {
+            Moved::To(next) => {
+                steps += 1;
+                regs = next;
+                if next.standby {
+                    return went(steps, Answer::Done, join(cells, stack, next));
+                }
+            }
+            Moved::Refused(refusal) => {
+                return went(steps, Answer::Refused(refusal), join(cells, stack, regs));
+            }
         }
     }
-    report(steps, End::Completed, join(cells, stack, regs))
+    went(steps, Answer::Done, join(cells, stack, regs))
+}
+
+// The counted run.
+pub fn run(rom: &[u16], machine: Machine, input: Input, budget: u32) -> Ran
+    ensures { λ r. ⌜ runOfRan r ≡ runOf upd17132 (now (rom .entry)) input budget machine ⌝ }
+{
+    let gone = go(rom, machine, input, budget);
+    let answer = gone.answer;
+    let after = gone.machine;
+    Ran {
+        report: Report {
+            steps: gone.steps,
+            end: end_of(answer),
+        },
+        machine: after,
+    }
+}
+
+// One step.
+pub fn step(rom: &[u16], machine: Machine, input: Input) -> Stepped
+    ensures { λ r. ⌜ stepOfStepped r ≡ stepOf upd17132 (now (rom .entry)) input machine ⌝ }
+{
+    let gone = go(rom, machine, input, 1);
+    let answer = gone.answer;
+    let after = gone.machine;
+    Stepped {
+        answer: answer,
+        machine: after,
+    }
 }

@@ -5,24 +5,18 @@ ghost use mathlib.Core.Bool.{false, _&&_};
 ghost use Prim.Native.Nat.{ℕ, _≤_};
 ghost use lib.Dec.{eqb};
 ghost use Rattle.memory.specs.Chip.{upd17132};
-ghost use Rattle.cpu.specs.Answers.{stepOfStepped};
 ghost use Rattle.cpu.specs.Control.{marked};
-ghost use Rattle.cpu.specs.Inside.{fetchedOf, advancedOf};
+ghost use Rattle.cpu.specs.Inside.{fetchedOf, executedOf, inputAt};
 ghost use Rattle.cpu.specs.Parts.{withStack, wholeOf};
-ghost use Rattle.cpu.specs.Step.{advanceOf, stepOf};
-use crate::Advanced;
-use crate::Answer;
+ghost use Rattle.cpu.specs.Step.{advanceOf};
 use crate::Control;
 use crate::Fetched;
-use crate::Input;
 use crate::Machine;
 use crate::Moved;
 use crate::Refusal;
 use crate::Regs;
-use crate::Stepped;
 use crate::execute::execute;
 use crate::flow;
-use crate::ranges;
 use isa::Decoded;
 use memory::Memory;
 
@@ -38,11 +32,11 @@ fn fetch(rom: &[u16], pc: u16) -> Fetched
 }
 
 // Whether the machine stays in standby.
-fn stays(regs: Regs, input: Input) -> bool
-    ensures { λ r. ⌜ r ≡ (regs .standby && eqb (input .release) 0) ⌝ }
+pub fn stays(regs: Regs, release: u8) -> bool
+    ensures { λ r. ⌜ r ≡ (regs .standby && eqb release 0) ⌝ }
 {
     if regs.standby {
-        return input.release == 0;
+        return release == 0;
     }
     false
 }
@@ -59,52 +53,29 @@ fn woken(regs: Regs) -> Regs
     }
 }
 
-fn refuse(regs: Regs, refusal: Refusal) -> Advanced
-    ensures { λ r. ⌜ r ≡ record { answer = Answer.Refused refusal; regs = regs } ⌝ }
-{
-    Advanced {
-        answer: Answer::Refused(refusal),
-        regs: regs,
-    }
-}
-
-// A step of a machine in range. A skipped word is fetched and not decoded.
+// A step of a machine in range that does not stay in standby. A skipped word is fetched and not decoded.
 pub fn advance(
     rom: &[u16],
     cells: &mut [u8; 128],
     stack: &mut [u16; 5],
     regs: Regs,
-    input: Input,
-) -> Advanced
+    pins: &[u8; 5],
+    directions: &[u8; 5],
+) -> Moved
     requires { ⌜ regs .levels ≤ 5 ⌝ }
-    ensures { λ r. ⌜ advancedOf (now (cells .exit)) (now (stack .exit)) r ≡ advanceOf upd17132 (now (rom .entry)) input (wholeOf (now (cells .entry)) (now (stack .entry)) regs) ⌝ }
+    ensures { λ r. ⌜ ((release : ℕ) → (regs .standby && eqb release 0) ≡ false → executedOf (now (cells .exit)) (now (stack .exit)) regs r ≡ advanceOf upd17132 (now (rom .entry)) (inputAt (now (pins .entry)) (now (directions .entry)) release) (wholeOf (now (cells .entry)) (now (stack .entry)) regs)) ⌝ }
 {
-    if stays(regs, input) {
-        return Advanced {
-            answer: Answer::Standby,
-            regs: regs,
-        };
-    }
     let Fetched::Word(word) = fetch(rom, regs.pc) else {
-        return refuse(regs, Refusal::PastRom);
+        return Moved::Refused(Refusal::PastRom);
     };
     let awake = woken(regs);
     if regs.skip {
-        return Advanced {
-            answer: Answer::Done,
-            regs: flow::onward(awake, false),
-        };
+        return Moved::To(flow::onward(awake, false));
     }
     let Decoded::Instruction(instruction) = isa::decode(word) else {
-        return refuse(regs, Refusal::NoInstruction);
+        return Moved::Refused(Refusal::NoInstruction);
     };
-    match execute(rom, instruction, cells, stack, awake, input) {
-        Moved::To(next) => Advanced {
-            answer: Answer::Done,
-            regs: next,
-        },
-        Moved::Refused(refusal) => refuse(regs, refusal),
-    }
+    execute(rom, instruction, cells, stack, awake, pins, directions)
 }
 
 pub fn regs_of(c: Control) -> Regs
@@ -130,28 +101,5 @@ pub fn join(cells: [u8; 128], stack: [u16; 5], regs: Regs) -> Machine
             skip: regs.skip,
             standby: regs.standby,
         },
-    }
-}
-
-// One step.
-pub fn step(rom: &[u16], machine: Machine, input: Input) -> Stepped
-    ensures { λ r. ⌜ stepOfStepped r ≡ stepOf upd17132 (now (rom .entry)) input machine ⌝ }
-{
-    if !ranges::all(rom, machine, input) {
-        return Stepped {
-            answer: Answer::Refused(Refusal::OutOfRange),
-            machine: machine,
-        };
-    }
-    let memory = machine.memory;
-    let control = machine.control;
-    let mut cells = memory.cells;
-    let mut stack = control.stack;
-    let after = advance(rom, &mut cells, &mut stack, regs_of(control), input);
-    let answer = after.answer;
-    let regs = after.regs;
-    Stepped {
-        answer: answer,
-        machine: join(cells, stack, regs),
     }
 }

@@ -5,7 +5,7 @@ ghost use Rattle.memory.specs.Chip.{upd17132};
 ghost use Rattle.memory.specs.Read.{readOf, mixOf};
 ghost use Rattle.memory.specs.Write.{writeOf, keptOf};
 use crate::Memory;
-use crate::masks::MASKS;
+use crate::masks::mask;
 
 // One cell written, its fixed bits 0; the rest equal. Past 7FH there is no cell.
 pub fn write(cells: [u8; 128], at: u8, v: u8) -> [u8; 128]
@@ -15,8 +15,19 @@ pub fn write(cells: [u8; 128], at: u8, v: u8) -> [u8; 128]
         return cells;
     }
     let mut next = cells;
-    next[at as usize] = v & MASKS[at as usize];
+    next[at as usize] = v & mask(at);
     next
+}
+
+// The same where the cells stand. A write by value at a variable address copies them out and back.
+pub fn store(cells: &mut [u8; 128], at: u8, v: u8)
+    ensures { λ _. ⌜ now (cells .exit) ≡ writeOf upd17132 (now (cells .entry)) at v ⌝ }
+{
+    if 128 <= at {
+        *cells = write(*cells, at, v);
+        return;
+    }
+    cells[at as usize] = v & mask(at);
 }
 
 // Bit by bit the pin where the direction is 0 and the stored bit where it is 1.
@@ -27,8 +38,8 @@ fn mix(pin: u8, direction: u8, stored: u8) -> u8
 }
 
 // A cell as an instruction reads it. Pins and directions are those of P0A to P0E.
-pub fn read(cells: &[u8; 128], pins: [u8; 5], directions: [u8; 5], at: u8) -> u8
-    ensures { λ r. ⌜ r ≡ readOf upd17132 (now (cells .entry)) pins directions at ⌝ }
+pub fn read(cells: &[u8; 128], pins: &[u8; 5], directions: &[u8; 5], at: u8) -> u8
+    ensures { λ r. ⌜ r ≡ readOf upd17132 (now (cells .entry)) (now (pins .entry)) (now (directions .entry)) at ⌝ }
 {
     if 128 <= at {
         return 0;
@@ -41,7 +52,7 @@ pub fn read(cells: &[u8; 128], pins: [u8; 5], directions: [u8; 5], at: u8) -> u8
         return stored;
     }
     let k = ((at - Memory::P0E + 4) % 5) as usize;
-    mix(pins[k], directions[k], stored) & MASKS[at as usize]
+    mix(pins[k], directions[k], stored) & mask(at)
 }
 
 // Whether a flag bit of a cell is 1.

@@ -11,6 +11,7 @@ pub use addressing::ix;
 pub use addressing::register;
 pub use cells::is_set;
 pub use cells::read;
+pub use cells::store;
 pub use cells::with_flag;
 pub use cells::write;
 pub use range::in_range;

@@ -1,4 +1,9 @@
 // The bits that stay at each address; the others are always 0.
+ghost use mathlib.Core.Path.{_≡_};
+ghost use lib.ListN.{getD};
+ghost use Rattle.memory.specs.Chip.{upd17132};
+use crate::Memory;
+
 pub const MASKS: [u8; 128] = [
     // 00H
     0b1111,
@@ -144,3 +149,17 @@ pub const MASKS: [u8; 128] = [
     0b1111,
     0b1111,
 ];
+
+// The bits that stay at one address, and none past 7FH. Below the ports every bit stays, and the table is not needed: a
+// constant array is made anew wherever a variable index reads it.
+pub fn mask(at: u8) -> u8
+    ensures { λ r. ⌜ r ≡ getD (upd17132 .masks) at 0 ⌝ }
+{
+    if at < Memory::P0E {
+        return 0b1111;
+    }
+    if 128 <= at {
+        return 0;
+    }
+    MASKS[at as usize]
+}

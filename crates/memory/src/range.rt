@@ -8,9 +8,10 @@ use crate::masks::MASKS;
 pub fn in_range(cells: &[u8; 128]) -> bool
     ensures { λ r. ⌜ r ≡ cellsInRange upd17132 (now (cells .entry)) ⌝ }
 {
+    let masks = MASKS;
     let mut failures: u8 = 0;
     for i in 0..128usize {
-        if cells[i] & MASKS[i] != cells[i] {
+        if cells[i] & masks[i] != cells[i] {
             failures += 1;
         }
     }

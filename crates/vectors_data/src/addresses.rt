@@ -45,7 +45,7 @@ fn show_transfer(label: &[u8], p: Pointers, r: u8, column: u8, m: u8) {
     let before = with_pointers(p);
     let at = memory::register(&before, r);
     let cells = memory::write(before, at, column);
-    let content = memory::read(&cells, [0; 5], [0; 5], at);
+    let content = memory::read(&cells, &[0; 5], &[0; 5], at);
     say(label);
     show_pointers(p);
     say(b", r ");

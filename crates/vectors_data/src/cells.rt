@@ -19,7 +19,7 @@ fn show_five(name: &[u8], x: [u8; 5]) {
     nibble(x[4]);
 }
 
-fn show_read(name: &[u8], cells: &[u8; 128], pins: [u8; 5], directions: [u8; 5], at: u8) {
+fn show_read(name: &[u8], cells: &[u8; 128], pins: &[u8; 5], directions: &[u8; 5], at: u8) {
     say(name);
     nibble(memory::read(cells, pins, directions, at));
 }
@@ -31,13 +31,13 @@ fn show_reads(v: u8, pins: [u8; 5], directions: [u8; 5]) {
     nibble(v);
     show_five(b" pins ", pins);
     show_five(b" directions ", directions);
-    show_read(b": P0A ", &cells, pins, directions, Memory::P0A);
-    show_read(b" P0B ", &cells, pins, directions, Memory::P0B);
-    show_read(b" P0C ", &cells, pins, directions, Memory::P0C);
-    show_read(b" P0D ", &cells, pins, directions, Memory::P0D);
-    show_read(b" P0E ", &cells, pins, directions, Memory::P0E);
-    show_read(b" 6E ", &cells, pins, directions, 0x6E);
-    show_read(b" 74 ", &cells, pins, directions, 0x74);
+    show_read(b": P0A ", &cells, &pins, &directions, Memory::P0A);
+    show_read(b" P0B ", &cells, &pins, &directions, Memory::P0B);
+    show_read(b" P0C ", &cells, &pins, &directions, Memory::P0C);
+    show_read(b" P0D ", &cells, &pins, &directions, Memory::P0D);
+    show_read(b" P0E ", &cells, &pins, &directions, Memory::P0E);
+    show_read(b" 6E ", &cells, &pins, &directions, 0x6E);
+    show_read(b" 74 ", &cells, &pins, &directions, 0x74);
     say(b"\n");
 }
 
@@ -62,7 +62,7 @@ pub const FIXED: [u8; 7] = [0x6F, 0x74, 0x75, 0x79, 0x7A, 0x7B, 0x7D];
 // What is read after a write of 0FH, where the port bits are outputs.
 fn kept(at: u8) -> u8 {
     let cells = memory::write(reset_cells(), at, 15);
-    memory::read(&cells, [0; 5], [15; 5], at)
+    memory::read(&cells, &[0; 5], &[15; 5], at)
 }
 
 fn show_kept(at: u8) {
@@ -127,7 +127,7 @@ fn show_increment_ix(from: u8, mpe: bool) {
 }
 
 fn show_cell(name: &[u8], cells: &[u8; 128], at: u8) {
-    show_read(name, cells, [0; 5], [0; 5], at);
+    show_read(name, cells, &[0; 5], &[0; 5], at);
 }
 
 fn show_buffer(v: u16) {

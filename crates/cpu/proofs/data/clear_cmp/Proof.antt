@@ -16,8 +16,8 @@ element-copy-out-with-flag c = search needs
 with-flag-requires : tie.Need-with-flag-requires
 with-flag-requires c κs = search needs
 
-write-requires : tie.Need-write-requires
-write-requires c κs = search needs
+store-requires : tie.Need-store-requires
+store-requires c κs = search needs
 
 enum-told-2 : tie.Need-enum-told-2
 enum-told-2 c = search needs
@@ -31,8 +31,8 @@ element-copy-out-with-flag-2 c = search needs
 with-flag-requires-2 : tie.Need-with-flag-requires-2
 with-flag-requires-2 c κs = search needs
 
-write-requires-2 : tie.Need-write-requires-2
-write-requires-2 c κs = search needs
+store-requires-2 : tie.Need-store-requires-2
+store-requires-2 c κs = search needs
 
 enum-told-3 : tie.Need-enum-told-3
 enum-told-3 c = search needs
@@ -48,11 +48,11 @@ enum-told-6 c = search needs
 
 returns : tie.Need-returns
 unfolding skipWrites writesApplied
-returns c = rw (c .before .before .before .before .enum-told .given .1, c .write .ensures, c .before .before .with-flag .ensures)
+returns c = rw (c .before .before .before .before .enum-told .given .1, c .store .ensures, c .before .before .with-flag .ensures)
 
 returns-2 : tie.Need-returns-2
 unfolding skipWrites writesApplied
-returns-2 c = rw (c .before .before .before .before .enum-told2 .given .1, c .write2 .ensures, c .before .before .with-flag2 .ensures)
+returns-2 c = rw (c .before .before .before .before .enum-told2 .given .1, c .store2 .ensures, c .before .before .with-flag2 .ensures)
 
 returns-3 : tie.Need-returns-3
 unfolding skipWrites writesApplied
@@ -78,12 +78,12 @@ clear-cmp-spec =
     cast-with-flag
     element-copy-out-with-flag
     with-flag-requires
-    write-requires
+    store-requires
     enum-told-2
     cast-with-flag-2
     element-copy-out-with-flag-2
     with-flag-requires-2
-    write-requires-2
+    store-requires-2
     enum-told-3
     enum-told-4
     enum-told-5

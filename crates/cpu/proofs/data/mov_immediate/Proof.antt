@@ -7,12 +7,12 @@ use Rattle.cpu.proofs.data.mov_immediate.Tie as tie
 address-requires : tie.Need-address-requires
 address-requires c κs = search needs
 
-write-requires : tie.Need-write-requires
-write-requires c κs = search needs
+store-requires : tie.Need-store-requires
+store-requires c κs = search needs
 
 returns : tie.Need-returns
 unfolding writesOf writesApplied
-returns c = λ pins directions. rw (c .write .ensures, c .before .before .address .ensures)
+returns c = λ pins directions. rw (c .store .ensures, c .before .before .address .ensures)
 
 pub mov-immediate-spec : {M : Type 1} → statement M
-mov-immediate-spec = tie.close (tie.spec address-requires write-requires returns)
+mov-immediate-spec = tie.close (tie.spec address-requires store-requires returns)

@@ -17,12 +17,12 @@ is-set-requires c κs = search needs
 rotate-requires : tie.Need-rotate-requires
 rotate-requires c κs = search needs
 
-write-requires : tie.Need-write-requires
-write-requires c κs = search needs
+store-requires : tie.Need-store-requires
+store-requires c κs = search needs
 
 returns : tie.Need-returns
 unfolding writesOf rotateWrites writesApplied
-returns c = rw (← c .before .before .before .before .before .before .before .before .register .ensures, ← c .before .before .before .before .before .before .read .ensures, ← c .before .before .before .before .is-set .ensures, ← c .before .before .before .rotate .ensures, eq-eqb _ _ (c .before .before .if1 .taken), c .write .ensures)
+returns c = rw (← c .before .before .before .before .before .before .before .before .register .ensures, ← c .before .before .before .before .before .before .read .ensures, ← c .before .before .before .before .is-set .ensures, ← c .before .before .before .rotate .ensures, eq-eqb _ _ (c .before .before .if1 .taken), c .store .ensures)
 
 cast-with-flag : tie.Need-cast-with-flag
 cast-with-flag c = search needs
@@ -33,15 +33,15 @@ element-copy-out-with-flag c = search needs
 with-flag-requires : tie.Need-with-flag-requires
 with-flag-requires c κs = search needs
 
-write-requires-2 : tie.Need-write-requires-2
-write-requires-2 c κs = search needs
+store-requires-2 : tie.Need-store-requires-2
+store-requires-2 c κs = search needs
 
-write-requires-3 : tie.Need-write-requires-3
-write-requires-3 c κs = search needs
+store-requires-3 : tie.Need-store-requires-3
+store-requires-3 c κs = search needs
 
 returns-2 : tie.Need-returns-2
 unfolding writesOf rotateWrites writesApplied
-returns-2 c = rw (← c .before .before .before .before .before .before .before .before .before .before .before .before .register .ensures, ← c .before .before .before .before .before .before .before .before .before .before .read .ensures, ← c .before .before .before .before .before .before .before .before .is-set .ensures, ← c .before .before .before .before .before .before .before .rotate .ensures, ne-eqb _ _ (c .before .before .before .before .before .before .if1 .left), c .write3 .ensures, c .before .before .write2 .ensures, c .before .before .before .before .with-flag .ensures)
+returns-2 c = rw (← c .before .before .before .before .before .before .before .before .before .before .before .before .register .ensures, ← c .before .before .before .before .before .before .before .before .before .before .read .ensures, ← c .before .before .before .before .before .before .before .before .is-set .ensures, ← c .before .before .before .before .before .before .before .rotate .ensures, ne-eqb _ _ (c .before .before .before .before .before .before .if1 .left), c .store3 .ensures, c .before .before .store2 .ensures, c .before .before .before .before .with-flag .ensures)
 
 pub rorc-spec : {M : Type 1} → statement M
 rorc-spec =
@@ -51,11 +51,11 @@ rorc-spec =
     read-requires
     is-set-requires
     rotate-requires
-    write-requires
+    store-requires
     returns
     cast-with-flag
     element-copy-out-with-flag
     with-flag-requires
-    write-requires-2
-    write-requires-3
+    store-requires-2
+    store-requires-3
     returns-2)

@@ -11,29 +11,29 @@ flags-after-requires c κs = search needs
 is-set-requires : tie.Need-is-set-requires
 is-set-requires c κs = search needs
 
-write-requires : tie.Need-write-requires
-write-requires c κs = search needs
+store-requires : tie.Need-store-requires
+store-requires c κs = search needs
 
 returns : tie.Need-returns
 unfolding arithmeticWrites writesApplied
-returns c = rw (← c .before .before .before .is-set .ensures, c .before .before .if1 .taken, c .write .ensures, c .before .before .before .before .before .flags-after .ensures)
+returns c = rw (← c .before .before .before .is-set .ensures, c .before .before .if1 .taken, c .store .ensures, c .before .before .before .before .before .flags-after .ensures)
 
-write-requires-2 : tie.Need-write-requires-2
-write-requires-2 c κs = search needs
+store-requires-2 : tie.Need-store-requires-2
+store-requires-2 c κs = search needs
 
 returns-2 : tie.Need-returns-2
 unfolding arithmeticWrites writesApplied
-returns-2 c = rw (← c .before .before .before .before .is-set .ensures, c .before .before .before .if1 .left, eq-eqb _ _ (c .before .before .if2 .taken), c .write2 .ensures)
+returns-2 c = rw (← c .before .before .before .before .is-set .ensures, c .before .before .before .if1 .left, eq-eqb _ _ (c .before .before .if2 .taken), c .store2 .ensures)
 
-write-requires-3 : tie.Need-write-requires-3
-write-requires-3 c κs = search needs
+store-requires-3 : tie.Need-store-requires-3
+store-requires-3 c κs = search needs
 
-write-requires-4 : tie.Need-write-requires-4
-write-requires-4 c κs = search needs
+store-requires-4 : tie.Need-store-requires-4
+store-requires-4 c κs = search needs
 
 returns-3 : tie.Need-returns-3
 unfolding arithmeticWrites writesApplied
-returns-3 c = rw (← c .before .before .before .before .before .before .is-set .ensures, c .before .before .before .before .before .if1 .left, ne-eqb _ _ (c .before .before .before .before .if2 .left), c .write4 .ensures, c .before .before .write3 .ensures, c .before .before .before .before .before .before .before .before .flags-after .ensures)
+returns-3 c = rw (← c .before .before .before .before .before .before .is-set .ensures, c .before .before .before .before .before .if1 .left, ne-eqb _ _ (c .before .before .before .before .if2 .left), c .store4 .ensures, c .before .before .store3 .ensures, c .before .before .before .before .before .before .before .before .flags-after .ensures)
 
 pub store-arithmetic-spec : {M : Type 1} → statement M
 store-arithmetic-spec =
@@ -41,10 +41,10 @@ store-arithmetic-spec =
     (tie.spec
     flags-after-requires
     is-set-requires
-    write-requires
+    store-requires
     returns
-    write-requires-2
+    store-requires-2
     returns-2
-    write-requires-3
-    write-requires-4
+    store-requires-3
+    store-requires-4
     returns-3)

@@ -31,20 +31,20 @@ store-arithmetic-requires-4 c κs = search needs
 enum-told-5 : tie.Need-enum-told-5
 enum-told-5 c = search needs
 
-write-requires : tie.Need-write-requires
-write-requires c κs = search needs
+store-requires : tie.Need-store-requires
+store-requires c κs = search needs
 
 enum-told-6 : tie.Need-enum-told-6
 enum-told-6 c = search needs
 
-write-requires-2 : tie.Need-write-requires-2
-write-requires-2 c κs = search needs
+store-requires-2 : tie.Need-store-requires-2
+store-requires-2 c κs = search needs
 
 enum-told-7 : tie.Need-enum-told-7
 enum-told-7 c = search needs
 
-write-requires-3 : tie.Need-write-requires-3
-write-requires-3 c κs = search needs
+store-requires-3 : tie.Need-store-requires-3
+store-requires-3 c κs = search needs
 
 returns : tie.Need-returns
 unfolding resultWrites writesApplied
@@ -64,15 +64,15 @@ returns-4 c = rw (c .before .before .enum-told4 .given .1) (c .store-arithmetic4
 
 returns-5 : tie.Need-returns-5
 unfolding resultWrites writesApplied
-returns-5 c = rw (c .before .before .enum-told5 .given .1, c .write .ensures)
+returns-5 c = rw (c .before .before .enum-told5 .given .1, c .store .ensures)
 
 returns-6 : tie.Need-returns-6
 unfolding resultWrites writesApplied
-returns-6 c = rw (c .before .before .enum-told6 .given .1, c .write2 .ensures)
+returns-6 c = rw (c .before .before .enum-told6 .given .1, c .store2 .ensures)
 
 returns-7 : tie.Need-returns-7
 unfolding resultWrites writesApplied
-returns-7 c = rw (c .before .before .enum-told7 .given .1, c .write3 .ensures)
+returns-7 c = rw (c .before .before .enum-told7 .given .1, c .store3 .ensures)
 
 pub store-result-spec : {M : Type 1} → statement M
 store-result-spec =
@@ -87,11 +87,11 @@ store-result-spec =
     enum-told-4
     store-arithmetic-requires-4
     enum-told-5
-    write-requires
+    store-requires
     enum-told-6
-    write-requires-2
+    store-requires-2
     enum-told-7
-    write-requires-3
+    store-requires-3
     returns
     returns-2
     returns-3

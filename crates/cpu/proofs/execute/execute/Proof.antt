@@ -139,16 +139,16 @@ fixed-requires c κs = search needs
 
 returns : tie.Need-returns
 unfolding controlOf skipsOf pastTable writtenOf writesOf writesApplied
-returns c = rw (c .before .before .before .before .instruction .given .1) (completes _ _ _ _ _ _ _ _ _ _ (c .onward .ensures _) refl (c .before .alu-register .ensures))
+returns c = λ release. rw (c .before .before .before .before .instruction .given .1) (completes _ _ _ _ _ _ _ _ _ _ (c .onward .ensures _) refl (c .before .alu-register .ensures))
 
 returns-2 : tie.Need-returns-2
 unfolding controlOf skipsOf pastTable writtenOf writesOf writesApplied
-returns-2 c = rw (c .before .before .before .before .instruction2 .given .1) (completes _ _ _ _ _ _ _ _ _ _ (c .onward2 .ensures _) refl (c .before .alu-immediate .ensures))
+returns-2 c = λ release. rw (c .before .before .before .before .instruction2 .given .1) (completes _ _ _ _ _ _ _ _ _ _ (c .onward2 .ensures _) refl (c .before .alu-immediate .ensures))
 
 returns-3 : tie.Need-returns-3
 unfolding controlOf skipsOf pastTable writtenOf writesOf writesApplied
-returns-3 c =
-    let s = c .before .before .before .before .before .before .before .before .before .args in
+returns-3 c = λ release.
+    let s = c .before .before .before .before .before .before .before .args in
     rw (c .before .before .before .before .instruction3 .given .1)
     (completes _ _ _ _ _ _ _ _ _ _
     (c .onward3 .ensures _ ∙ ap (λ (b : Bool). onwardOf upd17132 b (withStack (s .stack .now) (s .regs))) (c .before .skip .ensures .1))
@@ -156,71 +156,71 @@ returns-3 c =
 
 returns-4 : tie.Need-returns-4
 unfolding controlOf skipsOf pastTable writtenOf writesOf writesApplied
-returns-4 c = rw (c .before .before .before .before .instruction4 .given .1) (completes _ _ _ _ _ _ _ _ _ _ (c .onward4 .ensures _) refl (c .before .rorc .ensures))
+returns-4 c = λ release. rw (c .before .before .before .before .instruction4 .given .1) (completes _ _ _ _ _ _ _ _ _ _ (c .onward4 .ensures _) refl (c .before .rorc .ensures))
 
 returns-5 : tie.Need-returns-5
 unfolding controlOf skipsOf pastTable writtenOf writesOf writesApplied
-returns-5 c = rw (c .before .before .before .before .instruction5 .given .1) (completes _ _ _ _ _ _ _ _ _ _ (c .onward5 .ensures _) refl (c .before .ld .ensures))
+returns-5 c = λ release. rw (c .before .before .before .before .instruction5 .given .1) (completes _ _ _ _ _ _ _ _ _ _ (c .onward5 .ensures _) refl (c .before .ld .ensures))
 
 returns-6 : tie.Need-returns-6
 unfolding controlOf skipsOf pastTable writtenOf writesOf writesApplied
-returns-6 c = rw (c .before .before .before .before .instruction6 .given .1) (completes _ _ _ _ _ _ _ _ _ _ (c .onward6 .ensures _) refl (c .before .st .ensures))
+returns-6 c = λ release. rw (c .before .before .before .before .instruction6 .given .1) (completes _ _ _ _ _ _ _ _ _ _ (c .onward6 .ensures _) refl (c .before .st .ensures))
 
 returns-7 : tie.Need-returns-7
 unfolding controlOf skipsOf pastTable writtenOf writesOf writesApplied
-returns-7 c = rw (c .before .before .before .before .instruction7 .given .1) (completes _ _ _ _ _ _ _ _ _ _ (c .onward7 .ensures _) refl (c .before .mov-to .ensures))
+returns-7 c = λ release. rw (c .before .before .before .before .instruction7 .given .1) (completes _ _ _ _ _ _ _ _ _ _ (c .onward7 .ensures _) refl (c .before .mov-to .ensures))
 
 returns-8 : tie.Need-returns-8
 unfolding controlOf skipsOf pastTable writtenOf writesOf writesApplied
-returns-8 c = rw (c .before .before .before .before .instruction8 .given .1) (completes _ _ _ _ _ _ _ _ _ _ (c .onward8 .ensures _) refl (c .before .mov-from .ensures))
+returns-8 c = λ release. rw (c .before .before .before .before .instruction8 .given .1) (completes _ _ _ _ _ _ _ _ _ _ (c .onward8 .ensures _) refl (c .before .mov-from .ensures))
 
 returns-9 : tie.Need-returns-9
 unfolding controlOf skipsOf pastTable writtenOf writesOf writesApplied
-returns-9 c =
-    let s = c .before .before .before .before .before .before .before .before .before .args in
+returns-9 c = λ release.
+    let s = c .before .before .before .before .before .before .before .args in
     rw (c .before .before .before .before .instruction9 .given .1)
-    (completes _ _ _ _ _ _ _ _ _ _ (c .onward9 .ensures _) refl (c .before .mov-immediate .ensures (s .input .pins) (s .input .directions)))
+    (completes _ _ _ _ _ _ _ _ _ _ (c .onward9 .ensures _) refl (c .before .mov-immediate .ensures (s .pins .now) (s .directions .now)))
 
 returns-10 : tie.Need-returns-10
 unfolding controlOf skipsOf pastTable writtenOf writesOf writesApplied executeOf
-returns-10 c = rw (c .enum-told .given .1)
+returns-10 c = λ release. rw (c .enum-told .given .1)
 
 returns-11 : tie.Need-returns-11
 unfolding controlOf skipsOf pastTable writtenOf writesOf writesApplied executeOf
-returns-11 c = rw (c .enum-told2 .given .1)
+returns-11 c = λ release. rw (c .enum-told2 .given .1)
 
 returns-12 : tie.Need-returns-12
 unfolding controlOf skipsOf pastTable writtenOf writesOf writesApplied executeOf
-returns-12 c = rw (c .enum-told3 .given .1)
+returns-12 c = λ release. rw (c .enum-told3 .given .1)
 
 returns-13 : tie.Need-returns-13
 unfolding controlOf skipsOf pastTable writtenOf writesOf writesApplied executeOf
-returns-13 c = rw (c .enum-told4 .given .1)
+returns-13 c = λ release. rw (c .enum-told4 .given .1)
 
 returns-14 : tie.Need-returns-14
 unfolding controlOf skipsOf pastTable writtenOf writesOf writesApplied
-returns-14 c =
-    let s = c .before .before .before .before .before .before .before .args in
+returns-14 c = λ release.
+    let s = c .before .before .before .before .before .args in
     rw (c .before .before .instruction10 .given .1)
     (moves _ _ _ _ _ _ _ (c .branch .result) (s .stack .now) (c .branch .ensures (s .stack .now)) refl refl)
 
 returns-15 : tie.Need-returns-15
 unfolding controlOf skipsOf pastTable writtenOf writesOf writesApplied
-returns-15 c =
+returns-15 c = λ release.
     rw (c .before .before .before .instruction11 .given .1)
     (moves _ _ _ _ _ _ _ (c .call-in-reach .result) (c .call-in-reach .last .0) (c .call-in-reach .ensures) refl refl)
 
 returns-16 : tie.Need-returns-16
 unfolding controlOf skipsOf pastTable writtenOf writesOf writesApplied
-returns-16 c = rw (c .before .enum-told5 .given .1) (completes _ _ _ _ _ _ _ _ _ _ (c .stand .ensures _) refl refl)
+returns-16 c = λ release. rw (c .before .enum-told5 .given .1) (completes _ _ _ _ _ _ _ _ _ _ (c .stand .ensures _) refl refl)
 
 returns-17 : tie.Need-returns-17
 unfolding controlOf skipsOf pastTable writtenOf writesOf writesApplied
-returns-17 c = rw (c .before .enum-told6 .given .1) (completes _ _ _ _ _ _ _ _ _ _ (c .stand2 .ensures _) refl refl)
+returns-17 c = λ release. rw (c .before .enum-told6 .given .1) (completes _ _ _ _ _ _ _ _ _ _ (c .stand2 .ensures _) refl refl)
 
 returns-18 : tie.Need-returns-18
 unfolding controlOf skipsOf pastTable writtenOf writesOf writesApplied
-returns-18 c = rw (c .before .before .before .before .instruction12 .given .1) (c .fixed .ensures _)
+returns-18 c = λ release. rw (c .before .before .before .before .instruction12 .given .1) (c .fixed .ensures _)
 
 pub execute-spec : {M : Type 1} → statement M
 execute-spec =

@@ -5,7 +5,6 @@ use lib.ListN.{List·getD-eq-default}
 use Rattle.memory.proofs.Ports.{below-ports, above-ports, at-port}
 use Rattle.memory.specs.Read.{portOf}
 use Rattle.memory.specs.Write.{keptOf}
-use Rattle.memory.specs.Chip.{masks17132}
 use borrow.Author.Needs.{needs}
 use Rattle.memory.proofs.cells.read.Statement.{statement}
 use Rattle.memory.proofs.cells.read.Tie as tie
@@ -28,24 +27,24 @@ add-k c = search needs
 cast-k : tie.Need-cast-k
 cast-k c = search needs
 
-array-read-mix : tie.Need-array-read-mix
-array-read-mix c = search needs
+element-copy-out-mix : tie.Need-element-copy-out-mix
+element-copy-out-mix c = search needs
 
-array-read-mix-2 : tie.Need-array-read-mix-2
-array-read-mix-2 c = search needs
+element-copy-out-mix-2 : tie.Need-element-copy-out-mix-2
+element-copy-out-mix-2 c = search needs
 
 mix-requires : tie.Need-mix-requires
 mix-requires c κs = search needs
 
-array-read-result : tie.Need-array-read-result
-array-read-result c = search needs
+mask-requires : tie.Need-mask-requires
+mask-requires c κs = search needs
 
 returns-4 : tie.Need-returns-4
-unfolding portOf keptOf masks17132
+unfolding portOf keptOf
 returns-4 c =
-    let s = c .before .before .before .before .before in
-    rw (c .mix .ensures, some-cell (s .args .cells .now) (s .args .at) (c .before .before .before .before .if1 .left))
-    (at-port _ _ _ _ _ (c .before .before .if2 .left) (c .before .if3 .left))
+    let s = c .before .before .before .before .before .before .before .before in
+    rw (c .mask .ensures, c .before .mix .ensures, some-cell (s .args .cells .now) (s .args .at) (c .before .before .before .before .before .before .before .if1 .left))
+    (at-port _ _ _ _ _ (c .before .before .before .before .before .if2 .left) (c .before .before .before .before .if3 .left))
 
 pub read-spec : {M : Type 1} → statement M
 read-spec =
@@ -57,8 +56,8 @@ read-spec =
     returns-3
     add-k
     cast-k
-    array-read-mix
-    array-read-mix-2
+    element-copy-out-mix
+    element-copy-out-mix-2
     mix-requires
-    array-read-result
+    mask-requires
     returns-4)

@@ -17,10 +17,10 @@ use Rattle.memory.proofs.range.in_range.Statement.{statement}
 use Rattle.memory.proofs.range.in_range.Tie as tie
 
 abbrev Inv-loop : tie.InvT-loop
-Inv-loop cells failures₀ i₀ failures i = (failures ≡ Rattle.laws.specs.Every.failures (cellInRange upd17132 cells) i) × (failures ≤ i) × (i ≤ 128)
+Inv-loop cells masks failures₀ i₀ failures i = (failures ≡ Rattle.laws.specs.Every.failures (cellInRange upd17132 cells) i) × (failures ≤ i) × (i ≤ 128)
 
 abbrev μ-loop : tie.MeasureT-loop
-μ-loop cells failures₀ i₀ failures i = 128 - i
+μ-loop cells masks failures₀ i₀ failures i = 128 - i
 
 loop-holds : tie.Need-loop-holds Inv-loop μ-loop
 loop-holds c = (refl, omega arith, omega arith)
