@@ -3,7 +3,6 @@ pub mod Parts
 pub mod Ranges
 pub mod Flow
 pub mod Control
-pub mod Data
 pub mod Step
 pub mod Run
 pub mod InPlace

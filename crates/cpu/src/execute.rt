@@ -10,7 +10,6 @@ use crate::Input;
 use crate::Moved;
 use crate::Refusal;
 use crate::Regs;
-use crate::data;
 use crate::flow;
 use isa::FixedOp;
 use isa::Instruction;

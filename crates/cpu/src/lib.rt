@@ -1,5 +1,4 @@
 // The machine, its step and its counted run.
-mod data;
 mod execute;
 mod flow;
 mod ranges;

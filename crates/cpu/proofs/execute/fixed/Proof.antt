@@ -8,7 +8,7 @@ use mathlib.Core.Path.{refl}
 use Rattle.cpu.proofs.Settled.{completes, moves}
 use Rattle.memory.specs.Write.{writesApplied}
 use Rattle.cpu.specs.Control.{controlOf}
-use Rattle.cpu.specs.Data.{writesOf, skipsOf}
+use Rattle.data.specs.Data.{writesOf, skipsOf}
 use Rattle.cpu.specs.Step.{writtenOf, pastTable}
 use borrow.Author.Needs.{needs}
 use Rattle.cpu.proofs.execute.fixed.Statement.{statement}
