@@ -17,7 +17,7 @@ use Rattle.memory.specs.Chip.{Chip}
 use Rattle.cpu.specs.Answers.{Reply, done, inStandby, refused, numberOf, Step}
 use Rattle.memory.specs.Registers.{arOf}
 use Rattle.cpu.specs.Control.{Transfer, controlOf, marked}
-use Rattle.cpu.specs.Data.{skipsOf}
+use Rattle.data.specs.Data.{skipsOf}
 use Rattle.cpu.specs.Parts.{cellsOf, machineOf, withStack, wholeOf}
 use Rattle.cpu.specs.Inside.{fetchedOf, executedOf}
 use Rattle.cpu.specs.Step.{denied, completed, dataOf, writtenOf, pastTable, woken, leaving, inBase, runnable, runsOf, executeOf, decodedOf, passOver, fetchOf, advanceOf}

@@ -20,7 +20,7 @@ use Rattle.memory.specs.Registers.{arOf}
 use Rattle.memory.proofs.Writes.{ranged}
 use Rattle.cpu.specs.Answers.{Reply, done, inStandby, refused, Step}
 use Rattle.cpu.specs.Control.{Transfer, goes, denies, jump, marked, push, pop, top, next, onwards, unlessFull, unlessEmpty, inReach, controlOf, branchOf, callOf, returnOf, pushOf, popOf, tableOf, standbyOf, onwardOf}
-use Rattle.cpu.specs.Data.{skipsOf, writesOf}
+use Rattle.data.specs.Data.{skipsOf, writesOf}
 use Rattle.cpu.specs.Parts.{cellsOf, machineOf}
 use Rattle.cpu.specs.Ranges.{places, controlInRange, machineInRange, allInRange}
 use Rattle.cpu.specs.Step.{denied, completed, woken, leaving, dataOf, pastTable, writtenOf, settleOf, executeOf, runsOf, decodedOf, passOver, fetchOf, advanceOf, stepOf}

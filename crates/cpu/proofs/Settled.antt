@@ -11,7 +11,7 @@ use Rattle.memory.specs.Chip.{Chip}
 use Rattle.memory.specs.Registers.{arOf}
 use Rattle.cpu.specs.Answers.{Step, numberOf}
 use Rattle.cpu.specs.Control.{Transfer, goes, denies, controlOf}
-use Rattle.cpu.specs.Data.{skipsOf}
+use Rattle.data.specs.Data.{skipsOf}
 use Rattle.cpu.specs.Inside.{transferOf, executedOf}
 use Rattle.cpu.specs.Parts.{withStack, wholeOf, machineOf}
 use Rattle.cpu.specs.Step.{executeOf, settleOf, writtenOf, pastTable, dataOf, completed, denied}

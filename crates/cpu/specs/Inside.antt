@@ -5,12 +5,8 @@ use mathlib.Core.List.{List}
 use Prim.Native.Nat.{ℕ}
 use lib.Dec.{leb}
 use lib.ListN.{getD, length}
-use Rattle.isa.specs.declared.Instruction.{Instruction}
-use Rattle.memory.specs.Chip.{Chip}
-use Rattle.memory.specs.Write.{writesApplied}
 use Rattle.cpu.specs.Answers.{Step, numberOf}
 use Rattle.cpu.specs.Control.{Transfer, goes, denies}
-use Rattle.cpu.specs.Data.{Data, writesOf}
 use Rattle.cpu.specs.Parts.{withStack, wholeOf}
 use Rattle.cpu.specs.Step.{completed, denied}
 use Rattle.cpu.specs.declared.Fetched.{Fetched}
@@ -33,13 +29,6 @@ executedOf cells stack before (Refused q) = denied (numberOf q) (wholeOf cells s
 -- an input record put together
 abbrev pub inputAt : List ℕ → List ℕ → ℕ → Input
 inputAt pins directions release = record { pins = pins; directions = directions; release = release }
-
-abbrev pub dataAt : List ℕ → List ℕ → List ℕ → Data
-dataAt cells pins directions = record { cells = cells; pins = pins; directions = directions }
-
--- the cells after the writes of an instruction that takes nothing from the stack or the ROM
-abbrev pub writtenBy : Chip → Data → Instruction → List ℕ
-writtenBy chip d i = writesApplied chip (d .cells) (writesOf chip d i 0 0)
 
 abbrev pub fetchedOf : List ℕ → ℕ → Fetched
 fetchedOf rom pc = cond (leb (length rom) pc) Past (Word (getD rom pc 0))

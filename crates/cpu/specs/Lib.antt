@@ -2,7 +2,6 @@ pub mod Answers
 pub mod Parts
 pub mod Ranges
 pub mod Control
-pub mod Data
 pub mod Step
 pub mod Run
 pub mod InPlace

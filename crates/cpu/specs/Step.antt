@@ -16,7 +16,7 @@ use Rattle.memory.specs.Registers.{arOf}
 use Rattle.memory.specs.Write.{writesApplied}
 use Rattle.cpu.specs.Answers.{Reply, done, inStandby, refused, Step}
 use Rattle.cpu.specs.Control.{Transfer, controlOf, isStandby, marked, onwards, top}
-use Rattle.cpu.specs.Data.{Data, writesOf, skipsOf}
+use Rattle.data.specs.Data.{Data, writesOf, skipsOf}
 use Rattle.cpu.specs.Parts.{cellsOf, withCells, withControl}
 use Rattle.cpu.specs.Ranges.{allInRange}
 use Rattle.cpu.specs.declared.Control.{Control}

@@ -10,8 +10,7 @@ use crate::Input;
 use crate::Moved;
 use crate::Refusal;
 use crate::Regs;
-use crate::data;
-use crate::flow;
+use crate::moves;
 use isa::FixedOp;
 use isa::Instruction;
 
@@ -19,7 +18,7 @@ use isa::Instruction;
 fn movt(rom: &[u16], cells: &mut [u8; 128], regs: Regs) -> Moved
     ensures { λ r. ⌜ ((input : Input) (stack : List ℕ) → executedOf (now (cells .exit)) stack regs r ≡ executeOf upd17132 (now (rom .entry)) input (Instruction.Fixed FixedOp.Movt) (wholeOf (now (cells .entry)) stack regs)) ⌝ }
 {
-    let moved = flow::table(regs);
+    let moved = moves::table(regs);
     let Moved::To(next) = moved else {
         return moved;
     };
@@ -42,7 +41,7 @@ fn pop_ar(cells: &mut [u8; 128], stack: &mut [u16; 5], regs: Regs) -> Moved
     }
     let top = stack[(levels - 1) as usize];
     *cells = memory::write_ar(*cells, top);
-    flow::pop(stack, regs)
+    moves::pop(stack, regs)
 }
 
 // An instruction without operand.
@@ -53,23 +52,23 @@ fn fixed(rom: &[u16], op: FixedOp, cells: &mut [u8; 128], stack: &mut [u16; 5], 
     match op {
         FixedOp::IncAr => {
             *cells = memory::increment_ar(*cells);
-            Moved::To(flow::onward(regs, false))
+            return Moved::To(moves::onward(regs, false));
         }
         FixedOp::IncIx => {
             *cells = memory::increment_ix(*cells);
-            Moved::To(flow::onward(regs, false))
+            return Moved::To(moves::onward(regs, false));
         }
-        FixedOp::Movt => movt(rom, cells, regs),
-        FixedOp::PushAr => flow::push(stack, regs, memory::ar(&*cells)),
-        FixedOp::PopAr => pop_ar(cells, stack, regs),
-        FixedOp::BrAr => Moved::To(flow::jump(regs, memory::ar(&*cells))),
-        FixedOp::CallAr => flow::call(stack, regs, memory::ar(&*cells)),
-        FixedOp::Ret => flow::ret(stack, regs, false),
-        FixedOp::Retsk => flow::ret(stack, regs, true),
-        FixedOp::Reti => Moved::Refused(Refusal::NotInBase),
-        FixedOp::Ei => Moved::Refused(Refusal::NotInBase),
-        FixedOp::Di => Moved::Refused(Refusal::NotInBase),
-        FixedOp::Nop => Moved::To(flow::onward(regs, false)),
+        FixedOp::Movt => return movt(rom, cells, regs),
+        FixedOp::PushAr => return moves::push(stack, regs, memory::ar(&*cells)),
+        FixedOp::PopAr => return pop_ar(cells, stack, regs),
+        FixedOp::BrAr => return Moved::To(moves::jump(regs, memory::ar(&*cells))),
+        FixedOp::CallAr => return moves::call(stack, regs, memory::ar(&*cells)),
+        FixedOp::Ret => return moves::ret(stack, regs, false),
+        FixedOp::Retsk => return moves::ret(stack, regs, true),
+        FixedOp::Reti => return Moved::Refused(Refusal::NotInBase),
+        FixedOp::Ei => return Moved::Refused(Refusal::NotInBase),
+        FixedOp::Di => return Moved::Refused(Refusal::NotInBase),
+        FixedOp::Nop => return Moved::To(moves::onward(regs, false)),
     }
 }
 
@@ -89,48 +88,48 @@ pub fn execute(
     match instruction {
         Instruction::AluRegister { op, r, m } => {
             data::alu_register(cells, pins, directions, op, r, m);
-            Moved::To(flow::onward(regs, false))
+            return Moved::To(moves::onward(regs, false));
         }
         Instruction::AluImmediate { op, m, n4 } => {
             data::alu_immediate(cells, pins, directions, op, m, n4);
-            Moved::To(flow::onward(regs, false))
+            return Moved::To(moves::onward(regs, false));
         }
         Instruction::Skip { op, m, n4 } => {
             let skips = data::skip(cells, pins, directions, op, m, n4);
-            Moved::To(flow::onward(regs, skips))
+            return Moved::To(moves::onward(regs, skips));
         }
         Instruction::Rorc(r) => {
             data::rorc(cells, pins, directions, r);
-            Moved::To(flow::onward(regs, false))
+            return Moved::To(moves::onward(regs, false));
         }
         Instruction::Ld { r, m } => {
             data::ld(cells, pins, directions, r, m);
-            Moved::To(flow::onward(regs, false))
+            return Moved::To(moves::onward(regs, false));
         }
         Instruction::St { m, r } => {
             data::st(cells, pins, directions, m, r);
-            Moved::To(flow::onward(regs, false))
+            return Moved::To(moves::onward(regs, false));
         }
         Instruction::MovToIndirect { r, m } => {
             data::mov_to(cells, pins, directions, r, m);
-            Moved::To(flow::onward(regs, false))
+            return Moved::To(moves::onward(regs, false));
         }
         Instruction::MovFromIndirect { m, r } => {
             data::mov_from(cells, pins, directions, m, r);
-            Moved::To(flow::onward(regs, false))
+            return Moved::To(moves::onward(regs, false));
         }
         Instruction::MovImmediate { m, n4 } => {
             data::mov_immediate(cells, m, n4);
-            Moved::To(flow::onward(regs, false))
+            return Moved::To(moves::onward(regs, false));
         }
-        Instruction::Peek(_) => Moved::Refused(Refusal::NotInBase),
-        Instruction::Poke(_) => Moved::Refused(Refusal::NotInBase),
-        Instruction::Get(_) => Moved::Refused(Refusal::NotInBase),
-        Instruction::Put(_) => Moved::Refused(Refusal::NotInBase),
-        Instruction::Br(addr) => flow::branch(regs, addr),
-        Instruction::Call(addr) => flow::call_in_reach(stack, regs, addr),
-        Instruction::Stop(_) => Moved::To(flow::stand(regs)),
-        Instruction::Halt(_) => Moved::To(flow::stand(regs)),
-        Instruction::Fixed(op) => fixed(rom, op, cells, stack, regs),
+        Instruction::Peek(_) => return Moved::Refused(Refusal::NotInBase),
+        Instruction::Poke(_) => return Moved::Refused(Refusal::NotInBase),
+        Instruction::Get(_) => return Moved::Refused(Refusal::NotInBase),
+        Instruction::Put(_) => return Moved::Refused(Refusal::NotInBase),
+        Instruction::Br(addr) => return moves::branch(regs, addr),
+        Instruction::Call(addr) => return moves::call_in_reach(stack, regs, addr),
+        Instruction::Stop(_) => return Moved::To(moves::stand(regs)),
+        Instruction::Halt(_) => return Moved::To(moves::stand(regs)),
+        Instruction::Fixed(op) => return fixed(rom, op, cells, stack, regs),
     }
 }

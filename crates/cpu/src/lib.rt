@@ -1,7 +1,6 @@
 // The machine, its step and its counted run.
-mod data;
 mod execute;
-mod flow;
+mod moves;
 mod ranges;
 mod running;
 mod stepping;

@@ -16,7 +16,7 @@ use crate::Moved;
 use crate::Refusal;
 use crate::Regs;
 use crate::execute::execute;
-use crate::flow;
+use crate::moves;
 use isa::Decoded;
 use memory::Memory;
 
@@ -70,7 +70,7 @@ pub fn advance(
     };
     let awake = woken(regs);
     if regs.skip {
-        return Moved::To(flow::onward(awake, false));
+        return Moved::To(moves::onward(awake, false));
     }
     let Decoded::Instruction(instruction) = isa::decode(word) else {
         return Moved::Refused(Refusal::NoInstruction);

@@ -2,3 +2,4 @@ pub mod Every
 pub mod Arms
 pub mod First
 pub mod Wrap
+pub mod Lists

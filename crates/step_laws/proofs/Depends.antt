@@ -22,7 +22,7 @@ use Rattle.memory.specs.Names.{AR3, AR2, AR1, AR0, IXH, IXM, IXL, RPL, PSW, CMP
 use Rattle.memory.specs.Read.{readOf, portOf}
 use Rattle.memory.specs.Registers.{arOf}
 use Rattle.memory.specs.Write.{Write}
-use Rattle.cpu.specs.Data.{Data, flagsAfter, arithmeticWrites, resultWrites, rotateWrites, skipWrites, aluWrites, writesOf, readsOf, skipsOf}
+use Rattle.data.specs.Data.{Data, flagsAfter, arithmeticWrites, resultWrites, rotateWrites, skipWrites, aluWrites, writesOf, readsOf, skipsOf}
 use Rattle.step_laws.specs.ReadLaw.{implied, AgreeAt, withOthers, Same, ReadLaw}
 
 module _ (c o : List ℕ) where

@@ -7,7 +7,7 @@ use Rattle.isa.specs.declared.Instruction.{Instruction}
 use Rattle.memory.specs.Cells.{cellAt}
 use Rattle.memory.specs.Chip.{Chip}
 use Rattle.memory.specs.Names.{AR3, AR2, AR1, AR0, IXH, IXM, IXL, RPL, PSW}
-use Rattle.cpu.specs.Data.{Data, readsOf, skipsOf, writesOf}
+use Rattle.data.specs.Data.{Data, readsOf, skipsOf, writesOf}
 
 -- the cells that an instruction may go by besides its operands
 abbrev pub implied : List ℕ

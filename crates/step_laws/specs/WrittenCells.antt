@@ -19,7 +19,7 @@ use Rattle.memory.specs.Cells.{isSet}
 use Rattle.memory.specs.Chip.{Chip}
 use Rattle.memory.specs.Names.{AR3, AR2, AR1, AR0, DBF3, DBF2, DBF1, DBF0, IXH, IXM, IXL, PSW, CMP}
 use Rattle.memory.specs.Write.{Write}
-use Rattle.cpu.specs.Data.{Data, atM, atR, atPointer, writesOf}
+use Rattle.data.specs.Data.{Data, atM, atR, atPointer, writesOf}
 use Rattle.cpu.specs.Parts.{cellsOf}
 use Rattle.cpu.specs.Step.{dataOf, writtenOf}
 use Rattle.cpu.specs.declared.Input.{Input}

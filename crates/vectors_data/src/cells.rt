@@ -19,9 +19,9 @@ fn show_five(name: &[u8], x: [u8; 5]) {
     nibble(x[4]);
 }
 
-fn show_read(name: &[u8], cells: &[u8; 128], pins: &[u8; 5], directions: &[u8; 5], at: u8) {
+fn show_read(name: &[u8], cells: &[u8; 128], pins: [u8; 5], directions: [u8; 5], at: u8) {
     say(name);
-    nibble(memory::read(cells, pins, directions, at));
+    nibble(memory::read(cells, &pins, &directions, at));
 }
 
 // Every cell written with v, pins and directions from P0A to P0E: what the ports and the cell on either side read.
@@ -31,13 +31,13 @@ fn show_reads(v: u8, pins: [u8; 5], directions: [u8; 5]) {
     nibble(v);
     show_five(b" pins ", pins);
     show_five(b" directions ", directions);
-    show_read(b": P0A ", &cells, &pins, &directions, Memory::P0A);
-    show_read(b" P0B ", &cells, &pins, &directions, Memory::P0B);
-    show_read(b" P0C ", &cells, &pins, &directions, Memory::P0C);
-    show_read(b" P0D ", &cells, &pins, &directions, Memory::P0D);
-    show_read(b" P0E ", &cells, &pins, &directions, Memory::P0E);
-    show_read(b" 6E ", &cells, &pins, &directions, 0x6E);
-    show_read(b" 74 ", &cells, &pins, &directions, 0x74);
+    show_read(b": P0A ", &cells, pins, directions, Memory::P0A);
+    show_read(b" P0B ", &cells, pins, directions, Memory::P0B);
+    show_read(b" P0C ", &cells, pins, directions, Memory::P0C);
+    show_read(b" P0D ", &cells, pins, directions, Memory::P0D);
+    show_read(b" P0E ", &cells, pins, directions, Memory::P0E);
+    show_read(b" 6E ", &cells, pins, directions, 0x6E);
+    show_read(b" 74 ", &cells, pins, directions, 0x74);
     say(b"\n");
 }
 
@@ -127,7 +127,7 @@ fn show_increment_ix(from: u8, mpe: bool) {
 }
 
 fn show_cell(name: &[u8], cells: &[u8; 128], at: u8) {
-    show_read(name, cells, &[0; 5], &[0; 5], at);
+    show_read(name, cells, [0; 5], [0; 5], at);
 }
 
 fn show_buffer(v: u16) {

@@ -1,4 +1,3 @@
-pub mod Lists
 pub mod Entries
 pub mod Marks
 pub mod Ruled

@@ -15,7 +15,7 @@ use Rattle.memory.specs.Range.{cellsInRange}
 use Rattle.memory.specs.Registers.{arOf}
 use Rattle.cpu.specs.Answers.{Reply, done, inStandby, refused, refusalOf, Step}
 use Rattle.cpu.specs.Control.{Transfer, controlOf, isStandby, marked, onwards}
-use Rattle.cpu.specs.Data.{skipsOf}
+use Rattle.data.specs.Data.{skipsOf}
 use Rattle.cpu.specs.Parts.{cellsOf, withCells, withControl}
 use Rattle.cpu.specs.Ranges.{places, machineInRange, allInRange}
 use Rattle.cpu.specs.Step.{completed, denied, woken, leaving, dataOf, writtenOf, settleOf, executeOf, passOver, advanceOf, stepOf}

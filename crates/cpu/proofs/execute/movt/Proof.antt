@@ -2,7 +2,7 @@ use mathlib.Core.Path.{refl, _∙_, ap, sym}
 use Rattle.cpu.proofs.Settled.{completes, misses, refuses}
 use Rattle.memory.specs.Write.{writesApplied}
 use Rattle.cpu.specs.Control.{controlOf}
-use Rattle.cpu.specs.Data.{writesOf, skipsOf}
+use Rattle.data.specs.Data.{writesOf, skipsOf}
 use Rattle.cpu.specs.Step.{writtenOf, pastTable}
 use borrow.Author.Tests.{le-leb, lt-leb, eq-eqb, ne-eqb}
 use borrow.Author.Needs.{needs}

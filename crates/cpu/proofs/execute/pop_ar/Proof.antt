@@ -1,7 +1,7 @@
 use mathlib.Core.Path.{refl, _∙_, ap, sym}
 use Rattle.cpu.proofs.Settled.{refuses, passes}
 use Rattle.cpu.specs.Control.{controlOf, popOf}
-use Rattle.cpu.specs.Data.{writesOf, skipsOf}
+use Rattle.data.specs.Data.{writesOf, skipsOf}
 use Rattle.cpu.specs.Step.{writtenOf, pastTable}
 use borrow.Author.Tests.{eq-eqb, ne-eqb}
 use Rattle.cpu.specs.declared.Refusal.the-variants.{StackEmpty}

@@ -1,5 +1,5 @@
 use mathlib.Core.Path.{_≡_, _∙_, ap, refl, sym}
-use Rattle.verifier.proofs.Lists.{getD-inside, getD-past}
+use Rattle.laws.proofs.Lists.{getD-inside, getD-past}
 use borrow.Author.Needs.{needs}
 use Rattle.verifier.proofs.sheet.entry_at.Statement.{statement}
 use Rattle.verifier.proofs.sheet.entry_at.Tie as tie

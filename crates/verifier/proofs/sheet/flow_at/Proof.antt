@@ -1,6 +1,6 @@
 use mathlib.Core.Path.{_≡_, _∙_, ap, refl, sym}
 use Rattle.flow.specs.Flow.{wordFlow}
-use Rattle.verifier.proofs.Lists.{getD-past}
+use Rattle.laws.proofs.Lists.{getD-past}
 use borrow.Author.Needs.{needs}
 use Rattle.verifier.proofs.sheet.flow_at.Statement.{statement}
 use Rattle.verifier.proofs.sheet.flow_at.Tie as tie

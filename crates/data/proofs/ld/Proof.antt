@@ -1,0 +1,25 @@
+use Rattle.memory.specs.Write.{writesApplied}
+use Rattle.data.specs.Data.{writesOf}
+use borrow.Author.Needs.{needs}
+use Rattle.data.proofs.ld.Statement.{statement}
+use Rattle.data.proofs.ld.Tie as tie
+
+register-requires : tie.Need-register-requires
+register-requires c κs = search needs
+
+address-requires : tie.Need-address-requires
+address-requires c κs = search needs
+
+read-requires : tie.Need-read-requires
+read-requires c κs = search needs
+
+store-requires : tie.Need-store-requires
+store-requires c κs = search needs
+
+returns : tie.Need-returns
+unfolding writesOf writesApplied
+returns c = rw (c .store .ensures, c .before .before .read .ensures, c .before .before .before .before .address .ensures, c .before .before .before .before .before .before .register .ensures)
+
+pub ld-spec : {M : Type 1} → statement M
+ld-spec =
+    tie.close (tie.spec register-requires address-requires read-requires store-requires returns)

@@ -1,0 +1,18 @@
+use borrow.Author.Needs.{needs}
+use Rattle.data.proofs.pointer.Statement.{statement}
+use Rattle.data.proofs.pointer.Tie as tie
+
+register-requires : tie.Need-register-requires
+register-requires c κs = search needs
+
+read-requires : tie.Need-read-requires
+read-requires c κs = search needs
+
+indirect-requires : tie.Need-indirect-requires
+indirect-requires c κs = search needs
+
+returns : tie.Need-returns
+returns c = rw (c .indirect .ensures, c .before .read .ensures, c .before .before .register .ensures)
+
+pub pointer-spec : {M : Type 1} → statement M
+pointer-spec = tie.close (tie.spec register-requires read-requires indirect-requires returns)
