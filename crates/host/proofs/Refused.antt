@@ -43,6 +43,9 @@ module _ (chip : Chip) (rom : List ℕ) (input : Input) (m : Machine) where
       ranged (allInRange chip rom m input) m (advanceOf chip rom input m)
       (stays (isStandby (m .control) && eqb (input .release) 0) m (leaving m (s .machine) (s .reply)) (left m (s .machine) (s .reply)))
 
-  pub kept : (r : Stepped) → stepOfStepped r ≡ stepOf chip rom input m → (n : ℕ) → replyOf (r .answer) ≡ refused n → r .machine ≡ m
+  pub step-keeps : (n : ℕ) → (stepOf chip rom input m) .reply ≡ refused n → (stepOf chip rom input m) .machine ≡ m
   unfolding Kept
-  kept r e n q = ap (λ (s : Step). s .machine) e ∙ step-kept n (sym (ap (λ (s : Step). s .reply) e) ∙ q)
+  step-keeps = step-kept
+
+  pub kept : (r : Stepped) → stepOfStepped r ≡ stepOf chip rom input m → (n : ℕ) → replyOf (r .answer) ≡ refused n → r .machine ≡ m
+  kept r e n q = ap (λ (s : Step). s .machine) e ∙ step-keeps n (sym (ap (λ (s : Step). s .reply) e) ∙ q)
