@@ -1,0 +1,21 @@
+use mathlib.Core.Path.{_∙_, ap}
+use Rattle.pollwezen.specs.Exports.{recordOf}
+use borrow.Author.Needs.{needs}
+use Rattle.pollwezen.proofs.pollwezen_reset.Statement.{statement}
+use Rattle.pollwezen.proofs.pollwezen_reset.Tie as tie
+use Rattle.pollwezen.proofs.pollwezen_reset.Reads as reads
+use Rattle.pollwezen.proofs.pollwezen_reset.Lts as lts
+use Rattle.cpu.proofs.Machine.reset.Reads as reset-reads
+use Rattle.pollwezen.proofs.records.record_of.Reads as record-of-reads
+
+reset-requires : tie.Need-reset-requires
+reset-requires c κs = search needs
+
+record-of-requires : tie.Need-record-of-requires
+record-of-requires c κs = search needs
+
+returns : tie.Need-returns
+returns c = c .record-of .ensures ∙ ap recordOf (c .before .reset .ensures)
+
+pub pollwezen-reset-spec : {M : Type 1} → statement M
+pollwezen-reset-spec = tie.close (tie.spec reset-requires record-of-requires returns)

@@ -1,0 +1,17 @@
+use borrow.Author.Tests.{lt-leb, le-leb}
+use Rattle.pollwezen.specs.Exports.{marksInRange}
+use Rattle.pollwezen.proofs.records.marks_in_range.Statement.{statement}
+use Rattle.pollwezen.proofs.records.marks_in_range.Tie as tie
+use Rattle.pollwezen.proofs.records.marks_in_range.Reads as reads
+use Rattle.pollwezen.proofs.records.marks_in_range.Lts as lts
+
+returns : tie.Need-returns
+unfolding marksInRange
+returns c = simp (lt-leb _ _ (c .if1 .taken))
+
+returns-2 : tie.Need-returns-2
+unfolding marksInRange
+returns-2 c = simp (le-leb _ _ (c .before .if1 .left))
+
+pub marks-in-range-spec : {M : Type 1} → statement M
+marks-in-range-spec = tie.close (tie.spec returns returns-2)

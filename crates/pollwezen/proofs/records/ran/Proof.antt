@@ -1,0 +1,62 @@
+use borrow.Author.Tests.{not-true, not-false}
+use mathlib.Core.Path.{_∙_, sym}
+use denote.Ref.{now}
+use Rattle.pollwezen.proofs.Lent.{run-refused, run-answered}
+use borrow.Author.Needs.{needs}
+use Rattle.pollwezen.proofs.records.ran.Statement.{statement}
+use Rattle.pollwezen.proofs.records.ran.Tie as tie
+use Rattle.pollwezen.proofs.records.ran.Reads as reads
+use Rattle.pollwezen.proofs.records.ran.Lts as lts
+use Rattle.cpu.proofs.run.Reads as run-reads
+use Rattle.pollwezen.proofs.records.end_number.Reads as end-number-reads
+use Rattle.pollwezen.proofs.records.input_of.Reads as input-of-reads
+use Rattle.pollwezen.proofs.records.machine_of.Reads as machine-of-reads
+use Rattle.pollwezen.proofs.records.marks_in_range.Reads as marks-in-range-reads
+use Rattle.pollwezen.proofs.records.record_of.Reads as record-of-reads
+
+marks-in-range-requires : tie.Need-marks-in-range-requires
+marks-in-range-requires c κs = search needs
+
+returns : tie.Need-returns
+returns c =
+    let args = c .before .before .before .args in
+    run-refused (now (args .rom)) (args .input) (args .lent) (args .budget) (sym (c .before .marks-in-range .ensures) ∙ not-true _ (c .if1 .taken))
+
+machine-of-requires : tie.Need-machine-of-requires
+machine-of-requires c κs = search needs
+
+input-of-requires : tie.Need-input-of-requires
+input-of-requires c κs = search needs
+
+run-requires : tie.Need-run-requires
+run-requires c κs = search needs
+
+end-number-requires : tie.Need-end-number-requires
+end-number-requires c κs = search needs
+
+record-of-requires : tie.Need-record-of-requires
+record-of-requires c κs = search needs
+
+returns-2 : tie.Need-returns-2
+returns-2 c =
+    let done = c .before .before .before .before in
+    let made = done .before .before in
+    let tested = made .before .before in
+    let args = tested .before .before .args in
+    run-answered (now (args .rom)) (args .input) (args .lent) (args .budget) (sym (tested .marks-in-range .ensures) ∙ not-false _ (made .before .if1 .left))
+    (made .machine-of .result) (made .machine-of .ensures) (done .before .input-of .result) (done .before .input-of .ensures)
+    (done .run .result) (done .run .ensures) (c .before .end-number .result) (c .before .end-number .ensures)
+    (c .record-of .result) (c .record-of .ensures)
+
+pub ran-spec : {M : Type 1} → statement M
+ran-spec =
+    tie.close
+    (tie.spec
+    marks-in-range-requires
+    returns
+    machine-of-requires
+    input-of-requires
+    run-requires
+    end-number-requires
+    record-of-requires
+    returns-2)

@@ -1,0 +1,60 @@
+use borrow.Author.Tests.{not-true, not-false}
+use mathlib.Core.Path.{_∙_, sym}
+use denote.Ref.{now}
+use Rattle.pollwezen.proofs.Lent.{step-refused, step-answered}
+use borrow.Author.Needs.{needs}
+use Rattle.pollwezen.proofs.records.stepped.Statement.{statement}
+use Rattle.pollwezen.proofs.records.stepped.Tie as tie
+use Rattle.pollwezen.proofs.records.stepped.Reads as reads
+use Rattle.pollwezen.proofs.records.stepped.Lts as lts
+use Rattle.cpu.proofs.step.Reads as step-reads
+use Rattle.pollwezen.proofs.records.input_of.Reads as input-of-reads
+use Rattle.pollwezen.proofs.records.machine_of.Reads as machine-of-reads
+use Rattle.pollwezen.proofs.records.marks_in_range.Reads as marks-in-range-reads
+use Rattle.pollwezen.proofs.records.number.Reads as number-reads
+use Rattle.pollwezen.proofs.records.record_of.Reads as record-of-reads
+
+marks-in-range-requires : tie.Need-marks-in-range-requires
+marks-in-range-requires c κs = search needs
+
+returns : tie.Need-returns
+returns c = step-refused (now (c .before .before .before .args .rom)) (c .before .before .before .args .input) (c .before .before .before .args .lent) (sym (c .before .marks-in-range .ensures) ∙ not-true _ (c .if1 .taken))
+
+machine-of-requires : tie.Need-machine-of-requires
+machine-of-requires c κs = search needs
+
+input-of-requires : tie.Need-input-of-requires
+input-of-requires c κs = search needs
+
+step-requires : tie.Need-step-requires
+step-requires c κs = search needs
+
+number-requires : tie.Need-number-requires
+number-requires c κs = search needs
+
+record-of-requires : tie.Need-record-of-requires
+record-of-requires c κs = search needs
+
+returns-2 : tie.Need-returns-2
+returns-2 c =
+    let stepped = c .before .before .before in
+    let made = stepped .before .before in
+    let tested = made .before .before in
+    let args = tested .before .before .args in
+    step-answered (now (args .rom)) (args .input) (args .lent) (sym (tested .marks-in-range .ensures) ∙ not-false _ (made .before .if1 .left))
+    (made .machine-of .result) (made .machine-of .ensures) (stepped .before .input-of .result) (stepped .before .input-of .ensures)
+    (stepped .step .result) (stepped .step .ensures) (c .before .number .result) (c .before .number .ensures)
+    (c .record-of .result) (c .record-of .ensures)
+
+pub stepped-spec : {M : Type 1} → statement M
+stepped-spec =
+    tie.close
+    (tie.spec
+    marks-in-range-requires
+    returns
+    machine-of-requires
+    input-of-requires
+    step-requires
+    number-requires
+    record-of-requires
+    returns-2)

@@ -1,0 +1,95 @@
+-- What the exports answer: the definitions of the step and the run, on a record whose marks are bytes.
+-- Assumes nothing.
+use mathlib.Core.Path.{_≡_}
+use mathlib.Core.Bool.{Bool, true, _&&_, cond}
+use mathlib.Core.List.{List}
+use Prim.Native.Nat.{ℕ}
+use lib.Dec.{eqb, leb}
+use Rattle.memory.specs.Chip.{upd17132}
+use Rattle.cpu.specs.Answers.{Reply, done, inStandby, refused, replyOf, Step, Run}
+use Rattle.cpu.specs.InPlace.{stepInPlaceOf, runInPlaceOf}
+use Rattle.cpu.specs.Parts.{resetMachine}
+use Rattle.cpu.specs.declared.Answer.{Answer}
+use Rattle.cpu.specs.declared.Input.{Input}
+use Rattle.cpu.specs.declared.Machine.{Machine}
+use Rattle.verifier.specs.Verdict as check
+use Rattle.verifier.specs.declared.Verdict.{Verdict}
+use Rattle.pollwezen.specs.declared.Checked.{Checked}
+use Rattle.pollwezen.specs.declared.Inputs.{Inputs}
+use Rattle.pollwezen.specs.declared.Numbered.{Numbered}
+use Rattle.pollwezen.specs.declared.Record.{Record}
+use Rattle.pollwezen.specs.declared.Reported.{Reported}
+
+-- the marks are 0 or 1
+unfoldable pub marksInRange : Record → Bool
+marksInRange r = leb (r .skip) 1 && leb (r .standby) 1
+
+abbrev pub machineOf : Record → Machine
+machineOf r =
+    record {
+      memory = record { cells = r .cells };
+      control = record { pc = r .pc; stack = r .stack; levels = r .levels; skip = eqb (r .skip) 1; standby = eqb (r .standby) 1 };
+    }
+
+abbrev pub recordOf : Machine → Record
+recordOf m =
+    record {
+      cells = m .memory .cells;
+      pc = m .control .pc;
+      stack = m .control .stack;
+      levels = m .control .levels;
+      skip = cond (m .control .skip) 1 0;
+      standby = cond (m .control .standby) 1 0;
+    }
+
+abbrev pub inputOf : Inputs → Input
+inputOf i = record { pins = i .pins; directions = i .directions; release = i .release }
+
+-- a completed step is 0 and one that answers "standing" 255, which no refusal is
+abbrev pub numberOf : Reply → ℕ
+numberOf done = 0
+numberOf inStandby = 255
+numberOf (refused n) = n
+
+abbrev pub resetRecord : Record
+resetRecord = recordOf resetMachine
+
+abbrev pub numbered : ℕ → Record → Numbered
+numbered n left = record { number = n; left = left }
+
+abbrev pub ofStep : Step → Numbered
+ofStep s = numbered (numberOf (s .reply)) (recordOf (s .machine))
+
+-- a mark above 1 is refused with 1, and the record is left as it came
+unfoldable pub stepRecordOf : List ℕ → Inputs → Record → Numbered
+stepRecordOf rom i r = cond (marksInRange r) (ofStep (stepInPlaceOf upd17132 rom (inputOf i) (machineOf r))) (numbered 1 r)
+
+-- a run's steps, its refusal or 0, and the record
+abbrev pub reported : ℕ → ℕ → Record → Reported
+reported steps n left = record { report = record { steps = steps; number = n }; left = left }
+
+abbrev pub ofRun : Run → Reported
+ofRun s = reported (s .steps) (s .refusal) (recordOf (s .machine))
+
+unfoldable pub runRecordOf : List ℕ → Inputs → ℕ → Record → Reported
+runRecordOf rom i budget r = cond (marksInRange r) (ofRun (runInPlaceOf upd17132 rom (inputOf i) budget (machineOf r))) (reported 0 1 r)
+
+-- a sheet that passes is 0, and one that fails 254, which no refusal is
+abbrev pub checkedOf : check.Answer → Checked
+checkedOf check.pass = record { number = 0; word = 0; rule = 0 }
+checkedOf (check.fail word rule) = record { number = 254; word = word; rule = rule }
+checkedOf (check.refused n) = record { number = n; word = 0; rule = 0 }
+
+-- the numbers and the records of a host lose nothing
+pub record Faithful : Type 0 where
+  pub numbers : (a b : Answer) → numberOf (replyOf a) ≡ numberOf (replyOf b) → a ≡ b
+  pub records : (r : Record) → marksInRange r ≡ true → recordOf (machineOf r) ≡ r
+  pub machines : (m : Machine) → machineOf (recordOf m) ≡ m
+  pub checks : (a b : Verdict) → checkedOf (check.answerOf a) ≡ checkedOf (check.answerOf b) → a ≡ b
+
+-- from the reset record on the exports follow the forms in place, so what demand 3 says of those it says of the exports
+pub record Follows : Type 0 where
+  pub steps : (rom : List ℕ) (i : Inputs) (m : Machine)
+      → stepRecordOf rom i (recordOf m) ≡ ofStep (stepInPlaceOf upd17132 rom (inputOf i) m)
+  pub runs : (rom : List ℕ) (i : Inputs) (budget : ℕ) (m : Machine)
+      → runRecordOf rom i budget (recordOf m) ≡ ofRun (runInPlaceOf upd17132 rom (inputOf i) budget m)
