@@ -1,0 +1,39 @@
+use Rattle.station_file.specs.Inside.{formOf}
+use Rattle.station_file.proofs.Parsing.{form-early, form-other, form-same, fits-of}
+use borrow.Author.Needs.{needs}
+use Rattle.station_file.proofs.sections.form_section.Statement.{statement}
+use Rattle.station_file.proofs.sections.form_section.Tie as tie
+
+read-number-requires : tie.Need-read-number-requires
+read-number-requires c κs = search needs
+
+enum-known-value : tie.Need-enum-known-value
+enum-known-value c = search needs
+
+enum-told : tie.Need-enum-told
+enum-told c = search needs
+
+returns : tie.Need-returns
+returns c =
+    let a = c .before .before .before .before .args in
+    let r = c .before .before .read-number in
+    (form-early (formOf (a .form)) (a .file .now) (r .result) (r .ensures .0) (c .enum-told .given .1), tt)
+
+returns-2 : tie.Need-returns-2
+returns-2 c =
+    let a = c .before .before .before .before .before .before .before .args in
+    let r = c .before .before .before .before .before .read-number in
+    let g = c .before .before .before .value .given in
+    (form-other (formOf (a .form)) (a .file .now) (r .result) (r .ensures .0) (g .0 .0) (g .0 .1 .0) (g .1) (c .if1 .taken), tt)
+
+returns-3 : tie.Need-returns-3
+returns-3 c =
+    let a = c .before .before .before .before .before .before .before .args in
+    let r = c .before .before .before .before .before .read-number in
+    let g = c .before .before .before .value .given in
+    (form-same (formOf (a .form)) (a .file .now) (r .result) (r .ensures .0) (g .0 .0) (g .0 .1 .0) (g .1) (c .if1 .left), fits-of (a .file .now) (r .result) (g .0 .0) (g .0 .1 .0) (g .1) (r .ensures .1) .1)
+
+pub form-section-spec : {M : Type 1} → statement M
+form-section-spec =
+    tie.close
+    (tie.spec read-number-requires enum-known-value enum-told returns returns-2 returns-3)

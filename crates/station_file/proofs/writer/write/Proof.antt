@@ -1,0 +1,99 @@
+use Rattle.station_file.proofs.Rendering.{denies, full, writes, small}
+use native.Mathlib.Omega.{arith}
+use borrow.Author.Needs.{needs}
+use Rattle.station_file.proofs.writer.write.Statement.{statement}
+use Rattle.station_file.proofs.writer.write.Tie as tie
+
+form-1-requires : tie.Need-form-1-requires
+form-1-requires c κs = search needs
+
+check-requires : tie.Need-check-requires
+check-requires c κs = search needs
+
+enum-told : tie.Need-enum-told
+enum-told c = search needs
+
+enum-told-2 : tie.Need-enum-told-2
+enum-told-2 c = search needs
+
+checked-fault-requires : tie.Need-checked-fault-requires
+checked-fault-requires c κs = search needs
+
+returns : tie.Need-returns
+returns c =
+    let a = c .before .before .before .before .before .before .before .before .before .args in
+    let q = c .before .before .before .before .form-1 in
+    let k = c .before .before .before .check in
+    denies (a .rom .now) (a .sheet .now) (a .inputs .now) (q .result) (q .ensures) (k .result) (k .ensures .0) (a .out .now) (c .checked-fault .result) (c .before .enum-told2 .given .0 .0) (c .before .enum-told2 .given .1) (c .checked-fault .ensures)
+
+mul-size : tie.Need-mul-size
+mul-size c =
+    let a = c .before .before .before .before .before .before .before .before .args in
+    let q = c .before .before .before .form-1 in
+    let k = c .before .before .check in
+    let m = small (a .rom .now) (a .sheet .now) (a .inputs .now) (q .result) (q .ensures) (k .result) (k .ensures .0) (a .out .now) (c .enum-told .given .1) (k .ensures .1) in
+    omega (arith, m, c .before .before .before .before .before .before .before .before .good .1 .1 .0 .1)
+
+add-size : tie.Need-add-size
+add-size c =
+    let a = c .before .before .before .before .before .before .before .before .args in
+    let q = c .before .before .before .form-1 in
+    let k = c .before .before .check in
+    let m = small (a .rom .now) (a .sheet .now) (a .inputs .now) (q .result) (q .ensures) (k .result) (k .ensures .0) (a .out .now) (c .enum-told .given .1) (k .ensures .1) in
+    omega (arith, m, c .before .before .before .before .before .before .before .before .good .1 .1 .0 .1)
+
+add-size-2 : tie.Need-add-size-2
+add-size-2 c =
+    let a = c .before .before .before .before .before .before .before .before .args in
+    let q = c .before .before .before .form-1 in
+    let k = c .before .before .check in
+    let m = small (a .rom .now) (a .sheet .now) (a .inputs .now) (q .result) (q .ensures) (k .result) (k .ensures .0) (a .out .now) (c .enum-told .given .1) (k .ensures .1) in
+    omega (arith, m, c .before .before .before .before .before .before .before .before .good .1 .1 .0 .1)
+
+add-size-3 : tie.Need-add-size-3
+add-size-3 c =
+    let a = c .before .before .before .before .before .before .before .before .args in
+    let q = c .before .before .before .form-1 in
+    let k = c .before .before .check in
+    let m = small (a .rom .now) (a .sheet .now) (a .inputs .now) (q .result) (q .ensures) (k .result) (k .ensures .0) (a .out .now) (c .enum-told .given .1) (k .ensures .1) in
+    omega (arith, m, c .before .before .before .before .before .before .before .before .good .1 .1 .0 .1)
+
+returns-2 : tie.Need-returns-2
+returns-2 c =
+    let a = c .before .before .before .before .before .before .before .before .before .args in
+    let q = c .before .before .before .before .form-1 in
+    let k = c .before .before .before .check in
+    full (a .rom .now) (a .sheet .now) (a .inputs .now) (q .result) (q .ensures) (k .result) (k .ensures .0) (a .out .now) (c .before .enum-told .given .1) (c .if1 .taken)
+
+put-sections-requires : tie.Need-put-sections-requires
+put-sections-requires c κs = c .before .if1 .left
+
+same-length : tie.Need-same-length
+same-length c = search needs
+
+returns-3 : tie.Need-returns-3
+returns-3 c =
+    let a = c .before .before .before .before .before .before .before .before .before .before .before .before .before .args in
+    let q = c .before .before .before .before .before .before .before .before .form-1 in
+    let k = c .before .before .before .before .before .before .before .check in
+    let p = c .before .before .put-sections in
+    writes (a .rom .now) (a .sheet .now) (a .inputs .now) (q .result) (q .ensures) (k .result) (k .ensures .0) (a .out .now) (c .before .before .before .before .before .enum-told .given .1) (c .before .before .before .before .if1 .left) (p .last .1 .1 .1 .1 .0) (p .ensures)
+
+pub write-spec : {M : Type 1} → statement M
+write-spec =
+    tie.close
+    (tie.spec
+    form-1-requires
+    check-requires
+    enum-told
+    enum-told-2
+    checked-fault-requires
+    returns
+    mul-size
+    add-size
+    add-size-2
+    add-size-3
+    returns-2
+    put-sections-requires
+    same-length
+    returns-3)

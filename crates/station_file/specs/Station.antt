@@ -1,0 +1,77 @@
+-- The station file: document 01, "Station file" and the file refusals.
+-- Assumes nothing.
+use mathlib.Core.Bool.{Bool, _&&_, _||_, cond}
+use mathlib.Core.List.{List, [], _∷_}
+use Prim.Native.Nat.{ℕ, _*_, _%_}
+use lib.Dec.{eqb, ltb, leb}
+use lib.ListN.{length}
+use Rattle.memory.specs.Chip.{upd17132}
+use Rattle.verifier.specs.Entry.{proper}
+use Rattle.station_file.specs.Reading.{Reading, got, refused, andThen, tested, byte, number, fields}
+
+-- what differs between the forms of the file
+pub record Form : Type 0 where
+  -- the number in its first two bytes
+  pub number : ℕ
+  -- bytes of the count of inputs, and the most inputs
+  pub countBytes : ℕ
+  pub mostInputs : ℕ
+
+abbrev pub form1 : Form
+form1 = record { number = 1; countBytes = 2; mostInputs = 4095 }
+
+-- the ROM's words, a level for each word or none at all, and the bytes of the input records
+pub record Station : Type 0 where
+  pub rom : List ℕ
+  pub sheet : List ℕ
+  pub inputs : List ℕ
+
+-- "five pins, five directions, each 0 to 15; release 0 or 1"
+abbrev pub recordBytes : ℕ
+recordBytes = 11
+
+abbrev pub inputByte : ℕ → ℕ → Bool
+inputByte k b = cond (eqb (k % recordBytes) 10) (ltb b 2) (ltb b 16)
+
+-- "two-byte count 1 to 1,024, then words"
+abbrev pub romCount : ℕ → Bool
+romCount n = ltb 0 n && leb n 1024
+
+abbrev pub wordField : ℕ → List ℕ → Reading ℕ
+wordField k xs = number 2 xs
+
+unfoldable pub romSection : List ℕ → Reading (List ℕ)
+romSection xs = andThen (tested romCount 22 (number 2 xs)) (λ (n : ℕ) (rest : List ℕ). fields wordField 0 n rest)
+
+-- "two-byte count, 0 or the ROM's count, then a byte each (0 to 5 or 15)"
+abbrev pub sheetCount : ℕ → ℕ → Bool
+sheetCount words n = eqb n 0 || eqb n words
+
+abbrev pub entryField : ℕ → List ℕ → Reading ℕ
+entryField k xs = tested (proper upd17132) 23 (byte xs)
+
+unfoldable pub sheetSection : ℕ → List ℕ → Reading (List ℕ)
+sheetSection words xs = andThen (tested (sheetCount words) 22 (number 2 xs)) (λ (n : ℕ) (rest : List ℕ). fields entryField 0 n rest)
+
+-- "two-byte count 0 to 4,095, then eleven bytes each"
+abbrev pub inputField : ℕ → List ℕ → Reading ℕ
+inputField k xs = tested (inputByte k) 23 (byte xs)
+
+unfoldable pub inputSection : Form → List ℕ → Reading (List ℕ)
+inputSection form xs =
+    andThen (tested (λ (n : ℕ). leb n (form .mostInputs)) 22 (number (form .countBytes) xs))
+    (λ (n : ℕ) (rest : List ℕ). fields inputField 0 (recordBytes * n) rest)
+
+-- refusal 24: "bytes after the end"
+abbrev pub ended : Station → List ℕ → Reading Station
+ended s [] = got s []
+ended s (b ∷ rest) = refused 24
+
+-- the sections in their order, after the form number (refusal 20)
+unfoldable pub parseOf : Form → List ℕ → Reading Station
+parseOf form xs =
+    andThen (tested (λ (n : ℕ). eqb n (form .number)) 20 (number 2 xs)) (λ (n : ℕ) (a : List ℕ).
+    andThen (romSection a) (λ (rom : List ℕ) (b : List ℕ).
+    andThen (sheetSection (length rom) b) (λ (sheet : List ℕ) (c : List ℕ).
+    andThen (inputSection form c) (λ (inputs : List ℕ) (d : List ℕ).
+    ended (record { rom = rom; sheet = sheet; inputs = inputs }) d))))

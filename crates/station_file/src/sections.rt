@@ -1,0 +1,131 @@
+// The file's sections, in their order. Nothing is written here.
+ghost use mathlib.Core.Path.{_≡_};
+ghost use Prim.Native.Nat.{_≤_};
+ghost use lib.ListN.{length, drop};
+ghost use Rattle.station_file.specs.Station.{romSection, sheetSection, inputSection, parseOf};
+ghost use Rattle.station_file.specs.Inside.{formOf, formSection, afterForm, opened, OpeningFits, wordsIn, bytesIn, SectionFits, faultIn, stationIn, LayoutFits};
+use crate::Checked;
+use crate::Fault;
+use crate::Form;
+use crate::Layout;
+use crate::Number;
+use crate::Opening;
+use crate::Section;
+use crate::limits::rom_count;
+use crate::limits::sheet_count;
+use crate::numbers::read_number;
+use crate::scan;
+
+fn form_section(file: &[u8], form: Form) -> Opening
+    ensures { λ r. ⌜ opened form (now (file .entry)) r ≡ formSection (formOf form) (now (file .entry)) ⌝ }
+    ensures { λ r. ⌜ OpeningFits (now (file .entry)) r ⌝ }
+{
+    let Number::Is(value, next) = read_number(file, 0) else {
+        return Opening::Refused(Fault::Early);
+    };
+    if value != form.number {
+        return Opening::Refused(Fault::Form);
+    }
+    Opening::At(next)
+}
+
+fn rom_section(file: &[u8], at: usize) -> Section
+    requires { ⌜ at ≤ length (now file) ⌝ }
+    ensures { λ r. ⌜ wordsIn (now (file .entry)) r ≡ romSection (drop at (now (file .entry))) ⌝ }
+    ensures { λ r. ⌜ SectionFits 2 (now (file .entry)) r ⌝ }
+{
+    let Number::Is(count, start) = read_number(file, at) else {
+        return Section::Refused(Fault::Early);
+    };
+    if !rom_count(count) {
+        return Section::Refused(Fault::Count);
+    }
+    if file.len() - start < 2 * count {
+        return Section::Refused(Fault::Early);
+    }
+    Section::Good(count, start, start + 2 * count)
+}
+
+fn sheet_section(file: &[u8], at: usize, words: usize) -> Section
+    requires { ⌜ at ≤ length (now file) ⌝ }
+    ensures { λ r. ⌜ bytesIn 1 (now (file .entry)) r ≡ sheetSection words (drop at (now (file .entry))) ⌝ }
+    ensures { λ r. ⌜ SectionFits 1 (now (file .entry)) r ⌝ }
+{
+    let Number::Is(count, start) = read_number(file, at) else {
+        return Section::Refused(Fault::Early);
+    };
+    if !sheet_count(words, count) {
+        return Section::Refused(Fault::Count);
+    }
+    match scan::entries(file, start, count) {
+        Checked::Refused(fault) => Section::Refused(fault),
+        Checked::Good => Section::Good(count, start, start + count),
+    }
+}
+
+fn input_section(file: &[u8], at: usize, form: Form) -> Section
+    requires { ⌜ at ≤ length (now file) ⌝ }
+    ensures { λ r. ⌜ bytesIn 11 (now (file .entry)) r ≡ inputSection (formOf form) (drop at (now (file .entry))) ⌝ }
+    ensures { λ r. ⌜ SectionFits 11 (now (file .entry)) r ⌝ }
+{
+    let Number::Is(count, start) = read_number(file, at) else {
+        return Section::Refused(Fault::Early);
+    };
+    if form.most < count {
+        return Section::Refused(Fault::Count);
+    }
+    match scan::inputs(file, start, 11 * count) {
+        Checked::Refused(fault) => Section::Refused(fault),
+        Checked::Good => Section::Good(count, start, start + 11 * count),
+    }
+}
+
+fn section_fault(section: Section) -> Fault
+    ensures { λ r. ⌜ r ≡ faultIn section ⌝ }
+{
+    match section {
+        Section::Good(_, _, _) => Fault::Form,
+        Section::Refused(fault) => fault,
+    }
+}
+
+fn after_form(file: &[u8], at: usize, form: Form) -> Layout
+    requires { ⌜ at ≤ length (now file) ⌝ }
+    ensures { λ r. ⌜ stationIn (now (file .entry)) r ≡ afterForm (formOf form) (drop at (now (file .entry))) ⌝ }
+    ensures { λ r. ⌜ LayoutFits (now (file .entry)) r ⌝ }
+{
+    let rom = rom_section(file, at);
+    let Section::Good(words, rom_at, sheet_from) = rom else {
+        return Layout::Refused(section_fault(rom));
+    };
+    let sheet = sheet_section(file, sheet_from, words);
+    let Section::Good(entries, sheet_at, inputs_from) = sheet else {
+        return Layout::Refused(section_fault(sheet));
+    };
+    let inputs = input_section(file, inputs_from, form);
+    let Section::Good(records, inputs_at, end) = inputs else {
+        return Layout::Refused(section_fault(inputs));
+    };
+    if end < file.len() {
+        return Layout::Refused(Fault::After);
+    }
+    Layout::Station {
+        words,
+        rom_at,
+        entries,
+        sheet_at,
+        records,
+        inputs_at,
+    }
+}
+
+// Where each section of a file lies, or the file's first fault.
+pub fn parse(file: &[u8], form: Form) -> Layout
+    ensures { λ r. ⌜ stationIn (now (file .entry)) r ≡ parseOf (formOf form) (now (file .entry)) ⌝ }
+    ensures { λ r. ⌜ LayoutFits (now (file .entry)) r ⌝ }
+{
+    match form_section(file, form) {
+        Opening::Refused(fault) => Layout::Refused(fault),
+        Opening::At(at) => after_form(file, at, form),
+    }
+}

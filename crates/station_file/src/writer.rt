@@ -1,0 +1,105 @@
+// The writer.
+ghost use mathlib.Core.Path.{_≡_};
+ghost use mathlib.Core.List.{_++_};
+ghost use Prim.Native.Nat.{_+_, _*_, _≤_};
+ghost use lib.ListN.{length};
+ghost use Rattle.station_file.specs.Station.{form1};
+ghost use Rattle.station_file.specs.Read.{overlay};
+ghost use Rattle.station_file.specs.Write.{bytesOf, wordBytes, renderOf, faultOf, writeOf};
+ghost use Rattle.station_file.specs.Answers.{stationOf, writtenBy};
+ghost use Rattle.station_file.specs.Inside.{formOf, splice, checkedNumber, CheckFits, checkedFault};
+use crate::Checked;
+use crate::Fault;
+use crate::Form;
+use crate::Written;
+use crate::copies::copy_bytes;
+use crate::copies::put_words;
+use crate::limits::form_1;
+use crate::limits::rom_count;
+use crate::limits::sheet_count;
+use crate::numbers::put_number;
+use crate::scan;
+
+// The station's first fault, in the file's order.
+fn check(rom: &[u16], sheet: &[u8], inputs: &[u8], form: Form) -> Checked
+    ensures { λ r. ⌜ checkedNumber r ≡ faultOf (formOf form) (stationOf (now (rom .entry)) (now (sheet .entry)) (now (inputs .entry))) ⌝ }
+    ensures { λ r. ⌜ CheckFits (now (rom .entry)) (now (sheet .entry)) r ⌝ }
+{
+    if !rom_count(rom.len()) {
+        return Checked::Refused(Fault::Count);
+    }
+    if !sheet_count(rom.len(), sheet.len()) {
+        return Checked::Refused(Fault::Count);
+    }
+    let Checked::Good = scan::entries(sheet, 0, sheet.len()) else {
+        return Checked::Refused(Fault::Entry);
+    };
+    if inputs.len() % 11 != 0 {
+        return Checked::Refused(Fault::Count);
+    }
+    if form.most < inputs.len() / 11 {
+        return Checked::Refused(Fault::Count);
+    }
+    let Checked::Good = scan::inputs(inputs, 0, inputs.len()) else {
+        return Checked::Refused(Fault::Entry);
+    };
+    Checked::Good
+}
+
+// The ROM section.
+fn put_rom(rom: &[u16], out: &mut [u8], at: usize)
+    requires { ⌜ at + 2 + 2 * length (now rom) ≤ length (now out) ⌝ }
+    ensures { λ r. ⌜ now (out .exit) ≡ splice at (bytesOf 2 (length (now (rom .entry))) ++ wordBytes (now (rom .entry))) (now (out .entry)) ⌝ }
+{
+    put_number(rom.len(), out, at);
+    put_words(rom, out, at + 2);
+}
+
+// The sheet section, or the inputs section: a count, and the bytes after it.
+fn put_bytes(count: usize, bytes: &[u8], out: &mut [u8], at: usize)
+    requires { ⌜ at + 2 + length (now bytes) ≤ length (now out) ⌝ }
+    ensures { λ r. ⌜ now (out .exit) ≡ splice at (bytesOf 2 count ++ now (bytes .entry)) (now (out .entry)) ⌝ }
+{
+    put_number(count, out, at);
+    copy_bytes(bytes, 0, bytes.len(), out, at + 2);
+}
+
+// The sections, in the file's order.
+fn put_sections(rom: &[u16], sheet: &[u8], inputs: &[u8], form: Form, out: &mut [u8])
+    requires { ⌜ 8 + 2 * length (now rom) + length (now sheet) + length (now inputs) ≤ length (now out) ⌝ }
+    ensures { λ r. ⌜ now (out .exit) ≡ overlay (renderOf (formOf form) (stationOf (now (rom .entry)) (now (sheet .entry)) (now (inputs .entry)))) (now (out .entry)) ⌝ }
+{
+    let sheet_at = 4 + 2 * rom.len();
+    let inputs_at = sheet_at + 2 + sheet.len();
+    put_number(form.number, out, 0);
+    put_rom(rom, out, 2);
+    put_bytes(sheet.len(), sheet, out, sheet_at);
+    put_bytes(inputs.len() / 11, inputs, out, inputs_at);
+}
+
+fn checked_fault(checked: Checked) -> Fault
+    ensures { λ r. ⌜ r ≡ checkedFault checked ⌝ }
+{
+    match checked {
+        Checked::Good => Fault::Form,
+        Checked::Refused(fault) => fault,
+    }
+}
+
+// Writes a station's file to the front of the lent buffer. A refused station writes nothing.
+pub fn write(rom: &[u16], sheet: &[u8], inputs: &[u8], out: &mut [u8]) -> Written
+    ensures { λ r. ⌜ writtenBy r (now (out .exit))
+        ≡ writeOf form1 (stationOf (now (rom .entry)) (now (sheet .entry)) (now (inputs .entry))) (now (out .entry)) ⌝ }
+{
+    let form = form_1();
+    let checked = check(rom, sheet, inputs, form);
+    let Checked::Good = checked else {
+        return Written::Refused(checked_fault(checked));
+    };
+    let size = 8 + 2 * rom.len() + sheet.len() + inputs.len();
+    if out.len() < size {
+        return Written::Refused(Fault::Room);
+    }
+    put_sections(rom, sheet, inputs, form, out);
+    Written::Bytes(size)
+}

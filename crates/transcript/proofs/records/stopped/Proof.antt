@@ -1,0 +1,16 @@
+use mathlib.Core.Path.{ap}
+use Prim.Native.Nat.{ℕ}
+use borrow.Author.Needs.{needs}
+use Rattle.transcript.proofs.records.stopped.Statement.{statement}
+use Rattle.transcript.proofs.records.stopped.Tie as tie
+
+refusal-number-requires : tie.Need-refusal-number-requires
+refusal-number-requires c κs = search needs
+
+returns : tie.Need-returns
+returns c =
+    let s = c .before .args in
+    ap (λ (n : ℕ). record { machine = s .machine; steps = s .steps; refusal = n; at = s .at }) (c .refusal-number .ensures)
+
+pub stopped-spec : {M : Type 1} → statement M
+stopped-spec = tie.close (tie.spec refusal-number-requires returns)

@@ -1,0 +1,4 @@
+pub mod Text
+pub mod Transcript
+pub mod Inside
+pub mod Answers

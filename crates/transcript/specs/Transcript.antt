@@ -1,0 +1,117 @@
+-- What `station` prints for a file: document 01, "Station file".
+-- Assumes nothing.
+use mathlib.Core.Bool.{cond}
+use mathlib.Core.List.{List, [], _∷_, _++_}
+use Prim.Native.Nat.{ℕ, zero, suc, _+_, _/_}
+use lib.Dec.{eqb, leb}
+use lib.ListN.{getD, length, take, drop}
+use Rattle.text.specs.Hex.{hexDigitsOf}
+use Rattle.memory.specs.Chip.{upd17132}
+use Rattle.memory.specs.Names as names
+use Rattle.cpu.specs.Answers.{Reply, done, inStandby, refused, Step}
+use Rattle.cpu.specs.Parts.{cellsOf, resetMachine}
+use Rattle.cpu.specs.Step.{stepOf}
+use Rattle.cpu.specs.declared.Input.{Input}
+use Rattle.cpu.specs.declared.Machine.{Machine}
+use Rattle.verifier.specs.Verdict as verdict
+use Rattle.station_file.specs.Read.{overlay}
+use Rattle.station_file.specs.Reading as reading
+use Rattle.station_file.specs.Station.{Station, form1, recordBytes, parseOf}
+use Rattle.transcript.specs.Text.{space, newline, fileText, sheetText, noneText, passText, failText, endText, dashes, hex1, hex3, decimal}
+
+-- the input records of so many times eleven bytes: five pins, five directions, release
+abbrev pub inputsOf : ℕ → List ℕ → List Input
+inputsOf zero xs = []
+inputsOf (suc n) xs =
+    record { pins = take 5 xs; directions = take 5 (drop 5 xs); release = getD xs 10 0 }
+    ∷ inputsOf n (drop recordBytes xs)
+
+-- "first SHEET NONE, SHEET PASS, or SHEET FAIL with word (three hex digits) and rule"; a sheet that was read has the ROM's
+-- length, so the check has no refusal for it
+abbrev pub verdictText : verdict.Answer → List ℕ
+verdictText verdict.pass = passText
+verdictText (verdict.fail word rule) = failText ++ hex3 word ++ (space ∷ []) ++ decimal rule
+verdictText (verdict.refused n) = noneText
+
+unfoldable pub sheetLine : Station → List ℕ
+sheetLine s =
+    sheetText ++ cond (eqb (length (s .sheet)) 0) noneText (verdictText (verdict.verifyOf upd17132 (s .rom) (s .sheet))) ++ newline
+
+-- "record number in decimal, PC before (three hex digits), the word there (four, or ---- when it stays standing), PC after,
+-- open levels, PSW (one hex digit)"
+abbrev pub lineOf : ℕ → List ℕ → Machine → Machine → List ℕ
+lineOf number word before after =
+    decimal number ++ (space ∷ hex3 (before .control .pc)) ++ (space ∷ word) ++ (space ∷ hex3 (after .control .pc))
+    ++ (space ∷ hex1 (after .control .levels)) ++ (space ∷ hex1 (getD (cellsOf after) names.PSW 0)) ++ newline
+
+-- how far the records have come: the record, the steps completed, the refusal or 0, and what is printed
+pub record Progress : Type 0 where
+  pub machine : Machine
+  pub steps : ℕ
+  pub refusal : ℕ
+  pub text : List ℕ
+
+module _ (rom : List ℕ) where
+  -- a step that is completed or stays standing prints its line, a refusal none
+  abbrev pub replied : ℕ → Progress → Reply → Machine → Progress
+  replied number p done after = record {
+    machine = after;
+    steps = p .steps + 1;
+    refusal = 0;
+    text = p .text ++ lineOf number (hexDigitsOf (getD rom (p .machine .control .pc) 0)) (p .machine) after;
+  }
+  replied number p inStandby after = record {
+    machine = after;
+    steps = p .steps;
+    refusal = 0;
+    text = p .text ++ lineOf number dashes (p .machine) after;
+  }
+  replied number p (refused n) after = record { machine = after; steps = p .steps; refusal = n; text = p .text }
+
+  -- one record; "it stops at a refusal"
+  unfoldable pub recordOf : ℕ → Input → Progress → Progress
+  recordOf number i p =
+      cond (eqb (p .refusal) 0)
+      (let s = stepOf upd17132 rom i (p .machine) in replied number p (s .reply) (s .machine))
+      p
+
+  -- the records in turn, numbered from 1
+  abbrev pub progressOf : ℕ → List Input → Progress → Progress
+  progressOf number [] p = p
+  progressOf number (i ∷ is) p = progressOf (suc number) is (recordOf number i p)
+
+abbrev pub begun : Progress
+begun = record { machine = resetMachine; steps = 0; refusal = 0; text = [] }
+
+-- "Last END, completed steps, refusal or 0"
+abbrev pub endLine : Progress → List ℕ
+endLine p = endText ++ decimal (p .steps) ++ (space ∷ decimal (p .refusal)) ++ newline
+
+unfoldable pub stationText : Station → List ℕ
+stationText s =
+    let p = progressOf (s .rom) 1 (inputsOf (length (s .inputs) / recordBytes) (s .inputs)) begun in
+    sheetLine s ++ p .text ++ endLine p
+
+-- "Bad file: the one line FILE and the refusal"
+abbrev pub readText : reading.Reading Station → List ℕ
+readText (reading.got s rest) = stationText s
+readText (reading.refused n) = fileText ++ decimal n ++ newline
+
+unfoldable pub transcriptOf : List ℕ → List ℕ
+transcriptOf file = readText (parseOf form1 file)
+
+-- the text in a lent buffer: its length, or refusal 25 and nothing written
+pub data Printed : Type 0 where
+  printed : ℕ → Printed
+  denied : ℕ → Printed
+
+pub record Left : Type 0 where
+  pub answer : Printed
+  pub out : List ℕ
+
+unfoldable pub printOf : List ℕ → List ℕ → Left
+printOf file out =
+    let text = transcriptOf file in
+    cond (leb (length text) (length out))
+    (record { answer = printed (length text); out = overlay text out })
+    (record { answer = denied 25; out = out })

@@ -1,0 +1,26 @@
+// The text that the program `station` prints.
+mod file;
+mod inputs;
+mod line;
+mod put;
+mod records;
+mod whole;
+
+use cpu::Machine;
+pub use file::transcript;
+
+// What `transcript` answers.
+pub enum Printed {
+    // The text's length.
+    Text(usize),
+    // The lent buffer is too short: refusal 25.
+    TooShort,
+}
+
+// How far the records have come: the machine, the steps completed, the refusal or 0, and where the text goes on.
+struct Told {
+    machine: Machine,
+    steps: u16,
+    refusal: u16,
+    at: usize,
+}

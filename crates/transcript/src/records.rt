@@ -1,0 +1,115 @@
+// The records, from reset.
+ghost use mathlib.Core.Path.{_≡_};
+ghost use Prim.Native.Nat.{_≤_};
+ghost use lib.ListN.{getD, length};
+ghost use Rattle.cpu.specs.Answers.{numberOf};
+ghost use Rattle.transcript.specs.Inside.{Recorded, Reported};
+use crate::Told;
+use crate::inputs::input_at;
+use crate::line::put_line;
+use cpu::Answer;
+use cpu::Input;
+use cpu::Machine;
+use cpu::Refusal;
+
+fn refusal_number(refusal: Refusal) -> u16
+    ensures { λ r. ⌜ r ≡ numberOf refusal ⌝ }
+{
+    match refusal {
+        Refusal::OutOfRange => 1,
+        Refusal::PastRom => 2,
+        Refusal::NoInstruction => 3,
+        Refusal::NotInBase => 4,
+        Refusal::BadTarget => 5,
+        Refusal::StackFull => 6,
+        Refusal::StackEmpty => 7,
+        Refusal::PastTable => 8,
+    }
+}
+
+fn word_at(rom: &[u16], pc: u16) -> u16
+    ensures { λ r. ⌜ r ≡ getD (now (rom .entry)) pc 0 ⌝ }
+{
+    let at = pc as usize;
+    if rom.len() <= at {
+        return 0;
+    }
+    rom[at]
+}
+
+// A refusal prints no line.
+fn stopped(machine: Machine, steps: u16, refusal: Refusal, at: usize) -> Told
+    ensures { λ r. ⌜ r ≡ record { machine = machine; steps = steps; refusal = numberOf refusal; at = at } ⌝ }
+{
+    Told {
+        machine: machine,
+        steps: steps,
+        refusal: refusal_number(refusal),
+        at: at,
+    }
+}
+
+// One record. After a refusal nothing changes.
+fn tell_record(rom: &[u16], number: u16, input: Input, told: Told, out: &mut [u8]) -> Told
+    requires { ⌜ told .at ≤ 800000 ⌝ }
+    requires { ⌜ told .steps ≤ 60000 ⌝ }
+    ensures { λ r. ⌜ Recorded (now (rom .entry)) number input told (now (out .entry)) (now (out .exit)) r ⌝ }
+{
+    if told.refusal != 0 {
+        return told;
+    }
+    let at = told.at;
+    let steps = told.steps;
+    let before = told.machine;
+    let control = before.control;
+    let pc = control.pc;
+    let stepped = cpu::step(rom, before, input);
+    let answer = stepped.answer;
+    let after = stepped.machine;
+    match answer {
+        Answer::Done => {
+            let word = text::hex4(word_at(rom, pc));
+            let next = put_line(out, at, number, pc, word, after);
+            let completed = steps + 1;
+            Told {
+                machine: after,
+                steps: completed,
+                refusal: 0,
+                at: next,
+            }
+        }
+        Answer::Standby => {
+            let next = put_line(out, at, number, pc, [b'-', b'-', b'-', b'-'], after);
+            Told {
+                machine: after,
+                steps: steps,
+                refusal: 0,
+                at: next,
+            }
+        }
+        Answer::Refused(refusal) => stopped(after, steps, refusal, at),
+    }
+}
+
+// The records in turn, numbered from 1.
+pub fn tell_records(rom: &[u16], inputs: &[u8], out: &mut [u8], from: usize) -> Told
+    requires { ⌜ length (now inputs) ≤ 45045 ⌝ }
+    requires { ⌜ from ≤ 1000 ⌝ }
+    ensures { λ r. ⌜ Reported (now (rom .entry)) (now (inputs .entry)) from (now (out .entry)) (now (out .exit)) r ⌝ }
+{
+    let mut told = Told {
+        machine: Machine::reset(),
+        steps: 0,
+        refusal: 0,
+        at: from,
+    };
+    let count = inputs.len() / 11;
+    let mut k: usize = 0;
+    while k < count {
+        let input = input_at(inputs, k);
+        let next = tell_record(rom, (k + 1) as u16, input, told, out);
+        told = next;
+        k += 1;
+    }
+    told
+}

@@ -1,0 +1,142 @@
+/* Tests include/pollwezen.h against the library: the layout of its structs, and each entry with good and bad input.
+ * It prints each line that fails and ends with how many did; the exit status is 0 where none did. */
+#include "pollwezen.h"
+
+#include <stdio.h>
+#include <string.h>
+
+static int failed;
+
+static void expect(int holds, const char *what) {
+    if (!holds) {
+        printf("header: FAILED: %s\n", what);
+        failed++;
+    }
+}
+
+static int same(const pollwezen_record *a, const pollwezen_record *b) {
+    return memcmp(a->cells, b->cells, sizeof a->cells) == 0 && memcmp(a->stack, b->stack, sizeof a->stack) == 0
+        && a->pc == b->pc && a->levels == b->levels && a->skip == b->skip && a->standby == b->standby;
+}
+
+/* Where the header puts each field. A step below reads and writes each through the library. */
+static void layout(void) {
+    expect(sizeof(pollwezen_record) == 144 && offsetof(pollwezen_record, cells) == 0, "the record's size");
+    expect(offsetof(pollwezen_record, pc) == 128 && offsetof(pollwezen_record, stack) == 130, "pc and stack");
+    expect(offsetof(pollwezen_record, levels) == 140 && offsetof(pollwezen_record, skip) == 141, "levels and skip");
+    expect(offsetof(pollwezen_record, standby) == 142, "standby");
+    expect(sizeof(pollwezen_input) == 11 && offsetof(pollwezen_input, directions) == 5, "the input's directions");
+    expect(offsetof(pollwezen_input, release) == 10, "release");
+    expect(sizeof(pollwezen_report) == 8 && offsetof(pollwezen_report, number) == 4, "the report");
+    expect(sizeof(pollwezen_checked) == 6 && offsetof(pollwezen_checked, word) == 2, "the verdict's word");
+    expect(offsetof(pollwezen_checked, rule) == 4, "the verdict's rule");
+}
+
+static void reset(void) {
+    pollwezen_record r = pollwezen_reset(), zero;
+    memset(&zero, 0, sizeof zero);
+    expect(same(&r, &zero), "reset gives zeros");
+}
+
+/* MOV 10H,#5; SKE 10H,#5; CALL 004; HALT; RET */
+static const uint16_t program[] = {0xE905, 0x4905, 0xE004, 0x3BF8, 0x38E0};
+static const pollwezen_input none = {{0}, {0}, 0};
+
+static void steps(void) {
+    pollwezen_record r = pollwezen_reset(), before;
+    expect(pollwezen_step(program, 5, &r, none) == POLLWEZEN_DONE && r.cells[0x10] == 5 && r.pc == 1, "MOV 10H,#5");
+    expect(pollwezen_step(program, 5, &r, none) == POLLWEZEN_DONE && r.skip == 1, "SKE sets the mark");
+    expect(pollwezen_step(program, 5, &r, none) == POLLWEZEN_DONE && r.skip == 0 && r.pc == 3, "a skipped word");
+    expect(pollwezen_step(program, 5, &r, none) == POLLWEZEN_DONE && r.standby == 1, "HALT sets the mark");
+    before = r;
+    expect(pollwezen_step(program, 5, &r, none) == POLLWEZEN_STANDBY && same(&r, &before), "it stands by");
+    r.standby = 0;
+    expect(pollwezen_step(program, 5, &r, none) == 7 && r.pc == 4, "RET with an empty stack");
+    r.pc = 2;
+    expect(pollwezen_step(program, 5, &r, none) == POLLWEZEN_DONE && r.levels == 1 && r.stack[0] == 3 && r.pc == 4, "CALL");
+    expect(pollwezen_step(program, 5, &r, none) == POLLWEZEN_DONE && r.levels == 0 && r.stack[0] == 0 && r.pc == 3, "RET");
+    r.pc = 5;
+    before = r;
+    expect(pollwezen_step(program, 5, &r, none) == 2 && same(&r, &before), "past the last word");
+}
+
+/* Each record and input out of range is refused with 1, and the record stays. */
+static void out_of_range(void) {
+    for (int fault = 0; fault < 9; fault++) {
+        pollwezen_record r = pollwezen_reset(), before;
+        pollwezen_input in = none;
+        switch (fault) {
+        case 0: r.skip = 2; break;
+        case 1: r.standby = 255; break;
+        case 2: r.pc = 1024; break;
+        case 3: r.levels = 6; break;
+        case 4: r.stack[4] = 1; break;
+        case 5: r.cells[0x74] = 1; break;
+        case 6: in.pins[4] = 16; break;
+        case 7: in.directions[0] = 16; break;
+        case 8: in.release = 2; break;
+        }
+        before = r;
+        pollwezen_report ran;
+        expect(pollwezen_step(program, 5, &r, in) == 1 && same(&r, &before), "a step out of range");
+        ran = pollwezen_run(program, 5, &r, in, 3);
+        expect(ran.number == 1 && ran.steps == 0 && same(&r, &before), "a run out of range");
+    }
+    pollwezen_record r = pollwezen_reset();
+    expect(pollwezen_step(program, 0, &r, none) == 1, "a ROM of no words");
+    expect(pollwezen_run(program, 5, &r, none, 65536).number == 1, "a budget too large");
+}
+
+static void runs(void) {
+    pollwezen_record r = pollwezen_reset();
+    pollwezen_report ran = pollwezen_run(program, 5, &r, none, 65535);
+    expect(ran.steps == 4 && ran.number == POLLWEZEN_DONE && r.standby == 1, "a run up to HALT");
+    pollwezen_input release = none;
+    release.release = 1;
+    ran = pollwezen_run(program, 5, &r, release, 65535);
+    expect(ran.steps == 0 && ran.number == 7 && r.standby == 1, "a run refused at its first step");
+    r = pollwezen_reset();
+    expect(pollwezen_run(program, 5, &r, none, 2).steps == 2 && r.pc == 2, "a run up to its budget");
+}
+
+/* Ports: 6FH is P0E, 70H to 73H are P0A to P0D. LD 0,7xH reads the pin where the direction is 0. */
+static void ports(void) {
+    for (unsigned port = 0; port < 5; port++) {
+        uint16_t at = port == 4 ? 0x6F : (uint16_t)(0x70 + port);
+        uint16_t word = (uint16_t)(0x4000 | at << 4);
+        pollwezen_record r = pollwezen_reset();
+        pollwezen_input in = none;
+        in.pins[port] = 3;
+        expect(pollwezen_step(&word, 1, &r, in) == POLLWEZEN_DONE && r.cells[0] == 3, "a pin");
+        in.directions[port] = 15;
+        r.pc = 0;
+        expect(pollwezen_step(&word, 1, &r, in) == POLLWEZEN_DONE && r.cells[0] == 0, "a stored bit");
+    }
+}
+
+static void verdicts(void) {
+    static const uint16_t rom[] = {0xE003, 0x6000, 0x38F0, 0x38E0}, skipping[] = {0xE003, 0x6000, 0x38F0, 0x39E0};
+    static const uint8_t sheet[] = {0, 0, 15, 1};
+    pollwezen_checked c = pollwezen_verify(rom, 4, sheet, 4);
+    expect(c.number == POLLWEZEN_DONE && c.word == 0 && c.rule == 0, "a sheet that passes");
+    c = pollwezen_verify(skipping, 4, sheet, 4);
+    expect(c.number == POLLWEZEN_FAIL && c.word == 0 && c.rule == 5, "a sheet that fails");
+    static const uint8_t level[] = {0, 0, 15, 0};
+    c = pollwezen_verify(rom + 1, 3, level + 1, 3);
+    expect(c.number == POLLWEZEN_FAIL && c.word == 2 && c.rule == 6, "a RET at level 0");
+    c = pollwezen_verify(rom, 4, sheet, 3);
+    expect(c.number == 9 && c.word == 0 && c.rule == 0, "a sheet of another length");
+    expect(pollwezen_verify(rom, 0, sheet, 0).number == 1, "a ROM of no words");
+}
+
+int main(void) {
+    layout();
+    reset();
+    steps();
+    out_of_range();
+    runs();
+    ports();
+    verdicts();
+    printf("header: %d failed\n", failed);
+    return failed != 0;
+}
