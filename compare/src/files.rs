@@ -1,0 +1,94 @@
+//! Station files, good and damaged, through the program `station`, whose text
+//! is compared byte for byte with the second emulator's.
+
+use std::io::Write;
+use std::path::{Path, PathBuf};
+use std::process::{Command, Stdio};
+use std::sync::OnceLock;
+
+use reference::station::{read, write};
+use reference::transcript;
+
+use crate::pair::Finding;
+use crate::random::Random;
+use crate::stations::{damage, station};
+use crate::tally::Tally;
+
+/// Where the program `station` stands.
+pub static PROGRAM: OnceLock<PathBuf> = OnceLock::new();
+
+/// One file: good, or damaged once.
+pub fn file(random: &mut Random, _: u64, tally: &mut Tally) -> Result<(), Finding> {
+    let station = station(random);
+    let mut file = match write(&station) {
+        Ok(file) => file,
+        Err(refusal) => return Err(Finding(format!("a good station is refused with {refusal}\n"))),
+    };
+    if read(&file).as_ref() != Ok(&station) {
+        return Err(Finding(format!("a written file reads as another station\n{file:02X?}\n")));
+    }
+    if random.once_in(2) {
+        damage(random, &station, &mut file);
+    }
+    if let Ok(again) = read(&file) {
+        if write(&again).as_ref() != Ok(&file) {
+            return Err(Finding(format!(
+                "a station that was read writes another file\n{file:02X?}\n"
+            )));
+        }
+    }
+    compare(&file, tally)
+}
+
+/// The program's text against the second emulator's.
+fn compare(file: &[u8], tally: &mut Tally) -> Result<(), Finding> {
+    let program = PROGRAM.get().expect("main sets the path");
+    let printed = match print(program, file) {
+        Ok(printed) => printed,
+        Err(error) => return Err(Finding(format!("{}: {error}\n", program.display()))),
+    };
+    let expected = transcript(file);
+    if printed == expected.as_bytes() {
+        tally.compared += 1;
+        tally.see(kind(&expected));
+        return Ok(());
+    }
+    let printed = String::from_utf8_lossy(&printed).into_owned();
+    let line = printed.lines().zip(expected.lines()).take_while(|(a, b)| a == b).count();
+    let at = |text: &str| text.lines().nth(line).unwrap_or("its end").to_string();
+    Err(Finding(format!(
+        "file of {} bytes: {file:02X?}\nproved:\n{printed}second:\n{expected}\
+         first difference: line {}: proved {}, second {}\n",
+        file.len(),
+        line + 1,
+        at(&printed),
+        at(&expected)
+    )))
+}
+
+/// Runs the program on a file.
+fn print(program: &Path, file: &[u8]) -> std::io::Result<Vec<u8>> {
+    let mut child = Command::new(program).stdin(Stdio::piped()).stdout(Stdio::piped()).spawn()?;
+    if let Some(mut input) = child.stdin.take() {
+        // Of a file that is too long the program does not read the rest.
+        match input.write_all(file) {
+            Err(error) if error.kind() != std::io::ErrorKind::BrokenPipe => return Err(error),
+            _ => {}
+        }
+    }
+    Ok(child.wait_with_output()?.stdout)
+}
+
+fn kind(text: &str) -> &'static str {
+    match text.split_whitespace().collect::<Vec<_>>()[..] {
+        ["FILE", "20"] => "files refused with 20",
+        ["FILE", "21"] => "files refused with 21",
+        ["FILE", "22"] => "files refused with 22",
+        ["FILE", "23"] => "files refused with 23",
+        ["FILE", "24"] => "files refused with 24",
+        ["SHEET", "NONE", ..] => "files without a sheet",
+        ["SHEET", "PASS", ..] => "files whose sheet passes",
+        ["SHEET", "FAIL", ..] => "files whose sheet fails",
+        _ => "other texts",
+    }
+}

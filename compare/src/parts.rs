@@ -1,0 +1,124 @@
+//! The parts of the comparison.
+
+use crate::pair::Finding;
+use crate::random::Random;
+use crate::tally::Tally;
+use crate::{faults, files, lists, steps, verdicts};
+
+pub struct Part {
+    pub name: &'static str,
+    /// Cases in the gate.
+    pub cases: u64,
+    /// Cases with a deliberate fault switched on.
+    #[cfg_attr(not(feature = "faults"), allow(dead_code))]
+    pub few: u64,
+    /// Numbers and things that the gate's cases must see.
+    pub numbers: &'static [u8],
+    pub things: &'static [&'static str],
+    case: fn(&mut Random, u64, &mut Tally) -> Result<(), Finding>,
+}
+
+impl Part {
+    /// So many cases; the first disagreement as text.
+    pub fn go(&self, seed: u64, cases: u64, tally: &mut Tally) -> Result<(), String> {
+        let number = self.name.bytes().fold(0, |sum, byte| sum * 31 + u64::from(byte));
+        for index in 0..cases {
+            let mut random = Random::of_case(seed, number, index);
+            (self.case)(&mut random, index, tally).map_err(|found| {
+                format!("{}, seed {seed}, case {index}\n{}", self.name, found.0)
+            })?;
+        }
+        Ok(())
+    }
+}
+
+pub const PARTS: &[Part] = &[
+    Part {
+        name: "words",
+        cases: 65_536,
+        few: 65_536,
+        numbers: &[0, 2, 3, 4, 5, 6, 7, 8, 255],
+        things: &[],
+        case: steps::every_word,
+    },
+    Part {
+        name: "steps",
+        cases: 6_000_000,
+        few: 200_000,
+        numbers: &[0, 2, 3, 4, 5, 6, 7, 8, 255],
+        things: &[],
+        case: steps::random_word,
+    },
+    Part {
+        name: "runs",
+        cases: 300_000,
+        few: 10_000,
+        numbers: &[0, 2, 3, 4, 5, 6, 7, 8, 255],
+        things: &["runs of no step", "runs of some steps"],
+        case: steps::random_run,
+    },
+    Part {
+        name: "ranges",
+        cases: 200_000,
+        few: 2_000,
+        numbers: &[1],
+        things: &[
+            "with a fixed bit set",
+            "with a cell above 15",
+            "with PC above 1,023",
+            "with a stacked address above 1,023",
+            "with a closed level not 0",
+            "with more than five open levels",
+            "with a skip mark above 1",
+            "with a standby mark above 1",
+            "with a pin nibble above 15",
+            "with a direction nibble above 15",
+            "with a release above 1",
+            "with a ROM of no words",
+            "with a ROM of more than 1,024 words",
+            "with a budget above 65,535",
+        ],
+        case: faults::one_fault,
+    },
+    Part {
+        name: "verdicts",
+        cases: 20_480,
+        few: 2_048,
+        numbers: &[0, 1, 9, 254],
+        things: &["by rule 1", "by rule 2", "by rule 3", "by rule 4", "by rule 5", "by rule 6"],
+        case: verdicts::checks,
+    },
+    Part {
+        name: "lists",
+        cases: 4_096,
+        few: 100,
+        numbers: &[0, 1, 255],
+        things: &[
+            "wraps at 1,023",
+            "skipped words",
+            "CALLs with the clause",
+            "CALLs without it",
+            "RETs",
+            "RETSKs",
+            "MOVTs",
+        ],
+        case: lists::list,
+    },
+    Part {
+        name: "files",
+        cases: 800,
+        few: 200,
+        numbers: &[],
+        things: &[
+            "files refused with 20",
+            "files refused with 21",
+            "files refused with 22",
+            "files refused with 23",
+            "files refused with 24",
+            "files without a sheet",
+            "files whose sheet passes",
+            "files whose sheet fails",
+        ],
+        case: files::file,
+    },
+];

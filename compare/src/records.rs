@@ -1,0 +1,132 @@
+//! Random machines and inputs in range.
+
+use reference::machine::{LAST_ADDRESS, WRITABLE};
+use reference::{Input, Machine};
+
+use crate::random::Random;
+
+/// A random machine for a ROM of so many words.
+pub fn machine(random: &mut Random, words: usize) -> Machine {
+    let mut machine = Machine::reset();
+    fill(random, &mut machine, |nibble| nibble);
+    weigh(random, &mut machine);
+    control(random, &mut machine, words);
+    machine
+}
+
+/// A machine at a boundary: cells, pointers and addresses are first, last or
+/// next to it. The low four bits of `flags` are IXE, MPE, BCD and CMP.
+pub fn boundary(random: &mut Random, words: usize, flags: u8) -> Machine {
+    const NIBBLES: [u8; 16] = [0, 0, 0, 1, 2, 5, 7, 8, 9, 9, 10, 11, 14, 15, 15, 15];
+    let mut machine = Machine::reset();
+    fill(random, &mut machine, |nibble| NIBBLES[usize::from(nibble)]);
+    weigh(random, &mut machine);
+    put(&mut machine, Machine::PSW, Machine::IXE, flags & 1 != 0);
+    put(&mut machine, Machine::IXH, Machine::MPE, flags & 2 != 0);
+    put(&mut machine, Machine::RPL, Machine::BCD, flags & 4 != 0);
+    put(&mut machine, Machine::PSW, Machine::CMP, flags & 8 != 0);
+    control(random, &mut machine, words);
+    machine
+}
+
+/// A random input record. Half of them release.
+pub fn input(random: &mut Random) -> Input {
+    let bits = random.bits();
+    let nibble = |place: usize| (bits >> (4 * place) & 0xF) as u8;
+    let mut input = Input::default();
+    for port in 0..5 {
+        input.pins[port] = nibble(port);
+        input.directions[port] = nibble(5 + port);
+    }
+    input.release = (bits >> 40 & 1) as u8;
+    match bits >> 41 & 7 {
+        0 => input.directions = [0; 5],
+        1 => input.directions = [0xF; 5],
+        _ => {}
+    }
+    input
+}
+
+/// Every cell by a random nibble, its fixed bits 0.
+fn fill(random: &mut Random, machine: &mut Machine, content: impl Fn(u8) -> u8) {
+    for (row, bits) in machine.cells.chunks_exact_mut(16).zip(WRITABLE.chunks_exact(16)) {
+        let nibbles = random.bits();
+        for (column, (cell, kept)) in row.iter_mut().zip(bits).enumerate() {
+            *cell = content((nibbles >> (4 * column) & 0xF) as u8) & kept;
+        }
+    }
+}
+
+/// Index, row pointer and AR with weights; the flags stay as they fell.
+fn weigh(random: &mut Random, machine: &mut Machine) {
+    let index = match random.below(6) {
+        0 => 0,
+        1 => 0x7F,
+        2 => 1 << random.below(7),
+        3 => 0x60 | random.byte(32),
+        _ => random.byte(128),
+    };
+    set(machine, Machine::IXM, index >> 4);
+    set(machine, Machine::IXL, index & 0xF);
+    let row = match random.below(4) {
+        0 => 7,
+        1 => 6,
+        _ => random.byte(8),
+    };
+    let bcd = random.byte(2);
+    set(machine, Machine::RPL, row << 1 | bcd);
+    if random.once_in(4) {
+        set(machine, Machine::PSW, random.byte(16) | Machine::IXE);
+    }
+}
+
+/// AR, PC, stack and marks.
+fn control(random: &mut Random, machine: &mut Machine, words: usize) {
+    let ar = address(random, words);
+    set(machine, Machine::AR2, (ar >> 8) as u8);
+    set(machine, Machine::AR1, (ar >> 4 & 0xF) as u8);
+    set(machine, Machine::AR0, (ar & 0xF) as u8);
+    machine.pc = if random.once_in(32) { address(random, words) } else { inside(random, words) };
+    machine.levels = random.byte(6);
+    for place in &mut machine.stack[..usize::from(machine.levels)] {
+        *place = random.pick(&[0, 1, LAST_ADDRESS, LAST_ADDRESS - 1]);
+        if *place == 1 {
+            *place = (random.bits() as u16) & LAST_ADDRESS;
+        }
+    }
+    machine.skip = u8::from(random.once_in(8));
+    machine.standby = u8::from(random.once_in(8));
+}
+
+/// Any address, with those around the ROM's end weighted.
+fn address(random: &mut Random, words: usize) -> u16 {
+    let words = words.min(1024) as u16;
+    match random.below(6) {
+        0 => 0,
+        1 => words.saturating_sub(1),
+        2 => words & LAST_ADDRESS,
+        3 => LAST_ADDRESS,
+        _ => random.word(1024),
+    }
+}
+
+/// An address in the ROM, its last one weighted.
+fn inside(random: &mut Random, words: usize) -> u16 {
+    let words = words.clamp(1, 1024) as u16;
+    if random.once_in(8) {
+        words - 1
+    } else {
+        random.word(u64::from(words))
+    }
+}
+
+/// Stores a nibble without its fixed bits.
+fn set(machine: &mut Machine, address: u8, nibble: u8) {
+    machine.cells[usize::from(address)] = nibble & WRITABLE[usize::from(address)];
+}
+
+/// Sets or clears a flag.
+fn put(machine: &mut Machine, address: u8, flag: u8, on: bool) {
+    let others = machine.cells[usize::from(address)] & !flag;
+    set(machine, address, if on { others | flag } else { others });
+}

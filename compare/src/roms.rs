@@ -1,0 +1,119 @@
+//! Random ROMs with their sheets that pass the check, of any length.
+
+use reference::verify::NEVER;
+
+use crate::random::Random;
+use crate::words;
+
+#[derive(Clone)]
+pub struct Passing {
+    pub rom: Vec<u16>,
+    pub depths: Vec<u8>,
+}
+
+/// A ROM of so many words: stretches at random levels first, then for each
+/// word an instruction that the stretches allow.
+pub fn passing(random: &mut Random, words: usize) -> Passing {
+    let depths = stretches(random, words);
+    let plan = Plan::new(random, &depths);
+    let rom = (0..words).map(|at| plan.word(random, at)).collect();
+    Passing { rom, depths }
+}
+
+/// The sheet: level 0 first. Of a longest ROM the last words often have
+/// level 0 too, so that the PC can go on from 1,023 to 0.
+fn stretches(random: &mut Random, words: usize) -> Vec<u8> {
+    let mut depths = Vec::with_capacity(words);
+    let mut level = 0;
+    let longest = random.pick(&[4, 12, 40]);
+    while depths.len() < words {
+        let stretch = 1 + random.below(longest) as usize;
+        let end = words.min(depths.len() + stretch);
+        depths.resize(end, level);
+        level = match random.below(8) {
+            0 => NEVER,
+            1..=2 => 0,
+            3..=4 => (level % NEVER + 1).min(5),
+            _ => random.byte(6),
+        };
+    }
+    if words == 1024 && !random.once_in(4) {
+        depths[1018..].fill(0);
+    }
+    depths
+}
+
+/// What the words are chosen by.
+struct Plan<'a> {
+    depths: &'a [u8],
+    /// The words of each level.
+    places: [Vec<u16>; 6],
+    /// Where RETSK may stand, a bit for each level.
+    skipping: u8,
+}
+
+impl Plan<'_> {
+    fn new<'a>(random: &mut Random, depths: &'a [u8]) -> Plan<'a> {
+        let places = std::array::from_fn(|level| {
+            let at_level = (0..depths.len()).filter(|&at| usize::from(depths[at]) == level);
+            at_level.map(|at| at as u16).collect()
+        });
+        Plan { depths, places, skipping: random.byte(64) & random.byte(64) }
+    }
+
+    /// A word for the place `at`. Where nothing chosen fits: back, or BR.
+    fn word(&self, random: &mut Random, at: usize) -> u16 {
+        let level = self.depths[at];
+        if level == NEVER {
+            return words::any(random);
+        }
+        for _ in 0..6 {
+            if let Some(word) = self.chosen(random, at, level) {
+                return word;
+            }
+        }
+        if level > 0 && !random.once_in(3) {
+            return self.back(level);
+        }
+        self.branch(random, level)
+    }
+
+    fn chosen(&self, random: &mut Random, at: usize, level: u8) -> Option<u16> {
+        let next = self.follows(at, 1, level);
+        let both = next && self.follows(at, 2, level);
+        match random.below(40) {
+            0..=17 => next.then(|| words::plain(random)),
+            18..=25 => both.then(|| words::skip(random)),
+            26..=33 => self.call(random, next, both, level),
+            34..=35 => (next && self.depths.len() == 1024 && level <= 4).then_some(words::MOVT),
+            36 => next.then(|| words::halt(random)),
+            37 => Some(self.branch(random, level)),
+            _ => (level > 0).then(|| self.back(level)),
+        }
+    }
+
+    /// Rule 5: the word after next too, where a RETSK may have the level.
+    fn call(&self, random: &mut Random, next: bool, both: bool, level: u8) -> Option<u16> {
+        let called = self.places.get(usize::from(level) + 1)?;
+        let skipping = self.skipping >> (level + 1) & 1 == 1;
+        let fits = next && (both || !skipping) && !called.is_empty();
+        fits.then(|| words::call(random.pick(called)))
+    }
+
+    fn branch(&self, random: &mut Random, level: u8) -> u16 {
+        words::br(random.pick(&self.places[usize::from(level)]))
+    }
+
+    fn back(&self, level: u8) -> u16 {
+        if self.skipping >> level & 1 == 1 {
+            words::RETSK
+        } else {
+            words::RET
+        }
+    }
+
+    /// Has the word so many places on this level too?
+    fn follows(&self, at: usize, on: usize, level: u8) -> bool {
+        self.depths.get((at + on) & 0x3FF) == Some(&level)
+    }
+}

@@ -1,0 +1,117 @@
+//! The two checks on random ROMs and sheets.
+
+use reference::verify::NEVER;
+
+use crate::pair::{self, Finding};
+use crate::random::Random;
+use crate::roms::{passing, Passing};
+use crate::tally::Tally;
+use crate::words;
+
+/// A passing ROM of each length in turn, then damaged forms of it, then a
+/// small random one.
+pub fn checks(random: &mut Random, index: u64, tally: &mut Tally) -> Result<(), Finding> {
+    let words = (index % 1024 + 1) as usize;
+    let case = passing(random, words);
+    let checked = pair::verify(&case.rom, &case.depths)?;
+    tally.answer(checked.number);
+    if checked.number != pair::DONE {
+        return Err(Finding(format!("a ROM made to pass: {checked:?}\n{:04X?}\n", case.rom)));
+    }
+    for changes in [1, 1, 1, 2, 4] {
+        let mut damaged = case.clone();
+        (0..changes).for_each(|_| damage(random, &mut damaged));
+        judge(&damaged, tally)?;
+    }
+    judge(&small(random), tally)
+}
+
+fn judge(case: &Passing, tally: &mut Tally) -> Result<(), Finding> {
+    let checked = pair::verify(&case.rom, &case.depths)?;
+    tally.answer(checked.number);
+    tally.see(match checked.rule {
+        1 => "by rule 1",
+        2 => "by rule 2",
+        3 => "by rule 3",
+        4 => "by rule 4",
+        5 => "by rule 5",
+        6 => "by rule 6",
+        _ => return Ok(()),
+    });
+    Ok(())
+}
+
+/// One change.
+pub fn damage(random: &mut Random, case: &mut Passing) {
+    let words = case.rom.len() as u64;
+    if words == 0 {
+        return case.rom.push(words::NOP);
+    }
+    let at = random.below(words) as usize;
+    match random.below(16) {
+        0..=5 => case.rom[at] = words::any(random),
+        6..=8 => set(&mut case.depths, at, entry(random)),
+        9 => case.rom[at] = random.pick(&[words::RET, words::RETSK, words::MOVT, words::NOP]),
+        10..=11 => {
+            // A RETSK instead of a RET, often with a level of its own.
+            let all = 0..case.rom.len();
+            let rets: Vec<usize> = all.filter(|&at| case.rom[at] == words::RET).collect();
+            if !rets.is_empty() {
+                case.rom[random.pick(&rets)] = words::RETSK;
+            }
+        }
+        12 => set(&mut case.depths, 0, entry(random)),
+        13 => {
+            case.rom.truncate(at);
+            case.depths.truncate(at);
+        }
+        14 => {
+            let both = random.once_in(2);
+            case.rom.push(words::any(random));
+            if both {
+                case.depths.push(entry(random));
+            }
+        }
+        _ => {
+            case.depths.pop();
+        }
+    }
+}
+
+fn set(depths: &mut [u8], at: usize, entry: u8) {
+    if let Some(place) = depths.get_mut(at) {
+        *place = entry;
+    }
+}
+
+/// A sheet entry, seldom one that breaks rule 2.
+fn entry(random: &mut Random) -> u8 {
+    match random.below(12) {
+        0..=2 => NEVER,
+        3..=4 => random.pick(&[6, 7, 14, 16, 31, 128, 255]),
+        _ => random.byte(6),
+    }
+}
+
+/// A few words and entries that often go together.
+fn small(random: &mut Random) -> Passing {
+    let words = random.below(7);
+    let most = random.pick(&[1, 2, 3, 6]);
+    let depths = (0..words).map(|at| match random.below(16) {
+        _ if at == 0 => 0,
+        0 => entry(random),
+        1 => NEVER,
+        _ => random.byte(most),
+    });
+    let depths: Vec<u8> = depths.collect();
+    let rom = (0..words).map(|_| match random.below(8) {
+        0 => words::call(random.word(words + 1)),
+        1..=2 => words::br(random.word(words)),
+        3 => words::RET,
+        4 => words::RETSK,
+        5 => words::skip(random),
+        6 => words::NOP,
+        _ => words::any(random),
+    });
+    Passing { rom: rom.collect(), depths }
+}
