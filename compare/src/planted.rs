@@ -4,7 +4,7 @@
 use reference::fault::LAST;
 use reference::set_fault;
 
-use crate::parts::{Part, PARTS};
+use crate::parts::PARTS;
 use crate::tally::Tally;
 
 /// Switches one fault on.
@@ -19,35 +19,36 @@ pub fn switch(fault: u64) -> bool {
 /// found with none switched on.
 pub fn all_found(seed: u64) -> bool {
     set_fault(0);
-    if let Some((_, found)) = first_found(seed) {
-        println!("compare: without a fault: DISAGREEMENT in {found}");
+    if let Some((_, text)) = finders(seed).first() {
+        println!("compare: without a fault: DISAGREEMENT in {text}");
         return false;
     }
     println!("compare: without a fault: nothing found");
     let mut lost = 0;
     for fault in 1..=LAST {
         set_fault(fault);
-        match first_found(seed) {
-            Some((part, found)) => {
-                let first = found.lines().find(|line| line.starts_with("first difference"));
-                let told = first.or(found.lines().nth(1)).unwrap_or_default();
-                println!("compare: fault {fault}: found by {}: {told}", part.name);
-            }
-            None => {
-                println!("compare: fault {fault}: NOT FOUND");
-                lost += 1;
-            }
-        }
+        let found = finders(seed);
+        let Some((_, text)) = found.first() else {
+            println!("compare: fault {fault}: NOT FOUND");
+            lost += 1;
+            continue;
+        };
+        let names: Vec<_> = found.iter().map(|(name, _)| *name).collect();
+        let first = text.lines().find(|line| line.starts_with("first difference"));
+        let first = first.or(text.lines().nth(1)).unwrap_or_default();
+        println!("compare: fault {fault}: found by {}: {first}", names.join(", "));
     }
     set_fault(0);
     println!("compare: faults: {LAST} switched on, {lost} not found");
     lost == 0
 }
 
-/// The first part that finds something within its few cases.
-fn first_found(seed: u64) -> Option<(&'static Part, String)> {
-    PARTS.iter().find_map(|part| {
+/// The parts that find something within their few cases, and what it is.
+fn finders(seed: u64) -> Vec<(&'static str, String)> {
+    let all = PARTS.iter();
+    all.filter_map(|part| {
         let found = part.go(seed, part.few, &mut Tally::new()).err()?;
-        Some((part, found))
+        Some((part.name, found))
     })
+    .collect()
 }
