@@ -1,2 +1,4 @@
 pub mod Checks
 pub mod Lent
+pub mod EntryLists
+pub mod Verified

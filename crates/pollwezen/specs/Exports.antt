@@ -87,7 +87,7 @@ pub record Faithful : Type 0 where
   pub machines : (m : Machine) → machineOf (recordOf m) ≡ m
   pub checks : (a b : Verdict) → checkedOf (check.answerOf a) ≡ checkedOf (check.answerOf b) → a ≡ b
 
--- from the reset record on the exports follow the forms in place, so what demand 3 says of those it says of the exports
+-- from the reset record on the exports follow the forms in place
 pub record Follows : Type 0 where
   pub steps : (rom : List ℕ) (i : Inputs) (m : Machine)
       → stepRecordOf rom i (recordOf m) ≡ ofStep (stepInPlaceOf upd17132 rom (inputOf i) m)

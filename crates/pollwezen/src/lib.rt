@@ -6,6 +6,7 @@ ghost use mathlib.Core.Logic.{_↔_};
 ghost use Rattle.memory.specs.Chip.{upd17132};
 ghost use Rattle.verifier.specs.Safe.{Safe};
 ghost use Rattle.verifier.specs.Verdict.{Clear, verifyOf};
+ghost use Rattle.pollwezen.specs.SafeEntries.{SafeEntries};
 ghost use Rattle.pollwezen.specs.Exports.{checkedOf, numbered, reported, resetRecord, runRecordOf, stepRecordOf};
 use records::checked;
 use records::ran;
@@ -93,12 +94,13 @@ pub extern "C" fn pollwezen_run(
     r.report
 }
 
-// The check of a ROM and its sheet, one level a word.
+// The check of a ROM and its sheet, one level a word. The last promise is demand 3 for these entries.
 #[no_mangle]
 pub extern "C" fn pollwezen_verify(rom: &[u16], depths: &[u8]) -> Checked
     ensures { λ r. ⌜ r ≡ checkedOf (verifyOf upd17132 (now (rom .entry)) (now (depths .entry))) ⌝ }
     ensures { λ r. ⌜ (r .number ≡ 0) ↔ Clear upd17132 (now (rom .entry)) (now (depths .entry)) ⌝ }
     ensures { λ r. ⌜ (r .number ≡ 0 → Safe upd17132 (now (rom .entry)) (now (depths .entry))) ⌝ }
+    ensures { λ r. ⌜ (r .number ≡ 0 → SafeEntries (now (rom .entry)) (now (depths .entry))) ⌝ }
 {
     checked(verifier::verify(rom, depths))
 }

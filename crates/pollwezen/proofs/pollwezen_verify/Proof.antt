@@ -1,5 +1,5 @@
 use denote.Ref.{now}
-use Rattle.pollwezen.proofs.Checks.{verified}
+use Rattle.pollwezen.proofs.Verified.{promised}
 use borrow.Author.Needs.{needs}
 use Rattle.pollwezen.proofs.pollwezen_verify.Statement.{statement}
 use Rattle.pollwezen.proofs.pollwezen_verify.Tie as tie
@@ -17,7 +17,7 @@ checked-requires c κs = search needs
 returns : tie.Need-returns
 returns c =
     let args = c .before .before .before .before .args in
-    verified (now (args .rom)) (now (args .depths)) (c .before .verify .result) (c .checked .result) (c .checked .ensures) (c .before .verify .ensures)
+    promised (now (args .rom)) (now (args .depths)) (c .before .verify .result) (c .checked .result) (c .checked .ensures) (c .before .verify .ensures)
 
 pub pollwezen-verify-spec : {M : Type 1} → statement M
 pollwezen-verify-spec = tie.close (tie.spec verify-requires checked-requires returns)

@@ -1,0 +1,57 @@
+-- Demand 3 for the C entries: whatever list of calls of pollwezen_step and pollwezen_run is made on a passed ROM, from the
+-- record that pollwezen_reset gives and each on the record that the one before left.
+-- Assumes nothing.
+use mathlib.Core.Path.{_≡_}
+use mathlib.Core.Bool.{true, cond}
+use mathlib.Core.List.{List, [], _∷_}
+use mathlib.Core.Logic.{_⊎_}
+use Prim.Native.Nat.{ℕ}
+use lib.Dec.{eqb}
+use Rattle.memory.specs.Chip.{upd17132}
+use Rattle.verifier.specs.Calls.{Call, stepInPlace, runInPlace, ownInRange, Tally, noCalls, tallyAfter}
+use Rattle.verifier.specs.Safe.{Moment, During}
+use Rattle.pollwezen.specs.Exports.{machineOf, inputOf, resetRecord, stepRecordOf, runRecordOf}
+use Rattle.pollwezen.specs.declared.Inputs.{Inputs}
+use Rattle.pollwezen.specs.declared.Record.{Record}
+
+-- a call of an entry, with its own inputs and budget
+pub data EntryCall : Type 0 where
+  step : Inputs → EntryCall
+  run : Inputs → ℕ → EntryCall
+
+-- the same call in place
+abbrev pub inPlace : EntryCall → Call
+inPlace (step i) = stepInPlace (inputOf i)
+inPlace (run i budget) = runInPlace (inputOf i) budget
+
+-- the refusal in a step's number: standby is none
+abbrev pub refusalIn : ℕ → ℕ
+refusalIn n = cond (eqb n 255) 0 n
+
+-- what an entry answers, its refusal or 0, and the record that it leaves
+module _ (rom : List ℕ) where
+  abbrev pub refusalBy : EntryCall → Record → ℕ
+  refusalBy (step i) r = refusalIn ((stepRecordOf rom i r) .number)
+  refusalBy (run i budget) r = (runRecordOf rom i budget r) .report .number
+
+  abbrev pub leftBy : EntryCall → Record → Record
+  leftBy (step i) r = (stepRecordOf rom i r) .left
+  leftBy (run i budget) r = (runRecordOf rom i budget r) .left
+
+module _ (rom depths : List ℕ) where
+  -- a call that has its own inputs and budget in range is not refused, and no call with a number other than 1
+  pub record AllowedEntry (c : EntryCall) (r : Record) : Type 0 where
+    pub answered : ownInRange (inPlace c) ≡ true → refusalBy rom c r ≡ 0
+    pub onlyOne : (refusalBy rom c r ≡ 0) ⊎ (refusalBy rom c r ≡ 1)
+
+  -- as for the forms in place: the moment before the first call and after every call, and inside every run
+  abbrev pub GoodEntries : Record → Tally → List EntryCall → Type 0
+  GoodEntries r t [] = Moment upd17132 rom depths (machineOf r) t
+  GoodEntries r t (c ∷ cs) =
+      Moment upd17132 rom depths (machineOf r) t
+      × (AllowedEntry c r
+      × (During upd17132 rom depths (inPlace c) (machineOf r) t
+      × GoodEntries (leftBy rom c r) (tallyAfter upd17132 rom (inPlace c) (machineOf r) t) cs))
+
+  abbrev pub SafeEntries : Type 0
+  SafeEntries = (calls : List EntryCall) → GoodEntries resetRecord noCalls calls
