@@ -12,6 +12,10 @@
 extern "C" {
 #endif
 
+/* A record is live while every entry on it has answered POLLWEZEN_DONE or POLLWEZEN_STANDBY. After any other number it is not:
+ * a refused step leaves it as it came, so its port nibbles are old, and a refused run has stopped where it was. Take the lamps
+ * away then, and do not draw them from that record again. */
+
 /* Numbers that are no refusal. Every other number is one of document 01. */
 #define POLLWEZEN_DONE 0      /* a completed step, a run without a refusal, a sheet that passes */
 #define POLLWEZEN_FAIL 254    /* a sheet that fails */

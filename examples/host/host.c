@@ -1,0 +1,41 @@
+/* What a host program does: it checks the ROM with its sheet before anything runs, then runs the board a little at a time and
+ * shows the stored port nibbles, P0A to P0E, after each run. At a refusal it takes the lamps away and stops with status 1. */
+#include "pollwezen.h"
+
+#include <stdio.h>
+
+/* P0A's bit 0 is a lamp. Between two changes of it the board idles until a counter has gone round. */
+static const uint16_t rom[] = {
+    0xAF01, /* 000  XOR 70,#1 */
+    0xE90D, /* 001  MOV 10,#D */
+    0x8101, /* 002  ADD 10,#1 */
+    0x4900, /* 003  SKE 10,#0 */
+    0x6002, /* 004  BR 002 */
+    0x6000, /* 005  BR 000 */
+};
+static const uint8_t sheet[] = {0, 0, 0, 0, 0, 0};
+enum { WORDS = sizeof rom / sizeof rom[0] };
+
+static int stop(const char *what, unsigned number) {
+    printf("lamps -----\n");
+    fprintf(stderr, "host: %s: %u; the lamps are not known\n", what, number);
+    return 1;
+}
+
+int main(void) {
+    pollwezen_checked verdict = pollwezen_verify(rom, WORDS, sheet, WORDS);
+    if (verdict.number != POLLWEZEN_DONE) {
+        return stop("the ROM does not pass with its sheet", verdict.number);
+    }
+    pollwezen_record board = pollwezen_reset();
+    pollwezen_input input = {{0}, {15}, 0}; /* P0A is an output */
+    for (int refresh = 0; refresh < 8; refresh++) {
+        pollwezen_report ran = pollwezen_run(rom, WORDS, &board, input, 5);
+        if (ran.number != POLLWEZEN_DONE) {
+            return stop("refused", ran.number);
+        }
+        printf("lamps %X%X%X%X%X after %u steps\n", board.cells[0x70], board.cells[0x71], board.cells[0x72],
+               board.cells[0x73], board.cells[0x6F], ran.steps);
+    }
+    return 0;
+}
