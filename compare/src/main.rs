@@ -13,7 +13,6 @@
 
 mod faults;
 mod files;
-mod host;
 mod lists;
 mod pair;
 mod parts;
@@ -27,6 +26,9 @@ mod steps;
 mod tally;
 mod verdicts;
 mod words;
+
+// The library of this package, src/host.rs.
+use pollwezen_host as host;
 
 use std::path::PathBuf;
 use std::process::ExitCode;
