@@ -8,6 +8,7 @@ use Rattle.isa.specs.declared.Instruction.{Instruction}
 use Rattle.isa.specs.declared.Instruction.the-variants.{AluRegister, AluImmediate, Skip, Rorc, Ld, St, MovToIndirect, MovFromIndirect, MovImmediate, Peek, Poke, Get, Put, Br, Call, Stop, Halt, Fixed}
 use Rattle.isa.specs.declared.SkipOp.{SkipOp}
 use Rattle.isa.specs.declared.SkipOp.the-variants.{Skt, Skf, Ske, Skne, Skge, Sklt}
+use Rattle.rows.specs.Listing.{rowAt, made}
 use Rattle.cpu.specs.Step.{runsOf}
 use Rattle.flow.specs.declared.Flow.{Flow}
 use Rattle.flow.specs.declared.Flow.the-variants.{Onward, Skips, Branches, Calls, Returns, ReturnsSkip, ReadsTable, StandsBy, Barred}
@@ -64,3 +65,7 @@ decodedFlow (refused n) = Barred
 
 abbrev pub wordFlow : ℕ → Flow
 wordFlow word = decodedFlow (runsOf word)
+
+-- the flow of a row of the manual's list: no operand but a program address counts
+abbrev pub rowFlow : ℕ → ℕ → Flow
+rowFlow row addr = flowOf (made (rowAt row) 0 0 addr)

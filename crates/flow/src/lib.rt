@@ -1,10 +1,7 @@
 // Where control goes after a word, whatever the data: all that the check sees of an instruction.
 ghost use mathlib.Core.Path.{_≡_};
-ghost use Rattle.flow.specs.Flow.{skipFlow, fixedFlow, flowOf, wordFlow};
-use isa::Decoded;
-use isa::FixedOp;
-use isa::Instruction;
-use isa::SkipOp;
+ghost use Prim.Native.Nat.{_<_};
+ghost use Rattle.flow.specs.Flow.{rowFlow, wordFlow};
 
 pub enum Flow {
     // To the next word.
@@ -23,73 +20,42 @@ pub enum Flow {
     Barred,
 }
 
-// The six skips.
-fn of_skip(op: SkipOp) -> Flow
-    ensures { λ r. ⌜ r ≡ skipFlow op ⌝ }
+// The flow of a row of the manual's list, with its address if it has one.
+fn of_row(row: u8, addr: u16) -> Flow
+    requires { ⌜ row < 47 ⌝ }
+    ensures { λ r. ⌜ r ≡ rowFlow row addr ⌝ }
 {
-    match op {
-        SkipOp::Skt => Flow::Skips,
-        SkipOp::Skf => Flow::Skips,
-        SkipOp::Ske => Flow::Skips,
-        SkipOp::Skne => Flow::Skips,
-        SkipOp::Skge => Flow::Skips,
-        SkipOp::Sklt => Flow::Skips,
+    match row {
+        // SKT to SKLT
+        16..=21 => Flow::Skips,
+        // MOVT
+        28 => Flow::ReadsTable,
+        // PUSH, POP, PEEK, POKE, GET, PUT
+        29..=34 => Flow::Barred,
+        // BR
+        35 => Flow::Branches(addr),
+        36 => Flow::Barred,
+        // CALL
+        37 => Flow::Calls(addr),
+        38 => Flow::Barred,
+        // RET, RETSK, then RETI, EI, DI
+        39 => Flow::Returns,
+        40 => Flow::ReturnsSkip,
+        41..=43 => Flow::Barred,
+        // STOP, HALT
+        44..=45 => Flow::StandsBy,
+        _ => Flow::Onward,
     }
 }
 
-// The instructions without an operand.
-fn of_fixed(op: FixedOp) -> Flow
-    ensures { λ r. ⌜ r ≡ fixedFlow op ⌝ }
-{
-    match op {
-        FixedOp::IncAr => Flow::Onward,
-        FixedOp::IncIx => Flow::Onward,
-        FixedOp::Movt => Flow::ReadsTable,
-        FixedOp::PushAr => Flow::Barred,
-        FixedOp::PopAr => Flow::Barred,
-        FixedOp::BrAr => Flow::Barred,
-        FixedOp::CallAr => Flow::Barred,
-        FixedOp::Ret => Flow::Returns,
-        FixedOp::Retsk => Flow::ReturnsSkip,
-        FixedOp::Reti => Flow::Barred,
-        FixedOp::Ei => Flow::Barred,
-        FixedOp::Di => Flow::Barred,
-        FixedOp::Nop => Flow::Onward,
-    }
-}
-
-// The flow of an instruction.
-pub fn of_instruction(instruction: Instruction) -> Flow
-    ensures { λ r. ⌜ r ≡ flowOf instruction ⌝ }
-{
-    match instruction {
-        Instruction::AluRegister { op, r, m } => Flow::Onward,
-        Instruction::AluImmediate { op, m, n4 } => Flow::Onward,
-        Instruction::Skip { op, m, n4 } => of_skip(op),
-        Instruction::Rorc(r) => Flow::Onward,
-        Instruction::Ld { r, m } => Flow::Onward,
-        Instruction::St { m, r } => Flow::Onward,
-        Instruction::MovToIndirect { r, m } => Flow::Onward,
-        Instruction::MovFromIndirect { m, r } => Flow::Onward,
-        Instruction::MovImmediate { m, n4 } => Flow::Onward,
-        Instruction::Peek(rf) => Flow::Barred,
-        Instruction::Poke(rf) => Flow::Barred,
-        Instruction::Get(p) => Flow::Barred,
-        Instruction::Put(p) => Flow::Barred,
-        Instruction::Br(addr) => Flow::Branches(addr),
-        Instruction::Call(addr) => Flow::Calls(addr),
-        Instruction::Stop(s) => Flow::StandsBy,
-        Instruction::Halt(h) => Flow::StandsBy,
-        Instruction::Fixed(op) => of_fixed(op),
-    }
-}
-
-// The flow of a word; what is no instruction is barred.
+// The flow of a word; what is no instruction is barred. It goes by the word's row, so that the decoder has one caller, the
+// step, and is compiled into the run's loop.
 pub fn of_word(word: u16) -> Flow
     ensures { λ r. ⌜ r ≡ wordFlow word ⌝ }
 {
-    let Decoded::Instruction(instruction) = isa::decode(word) else {
+    let listed = rows::decode(word);
+    if listed.number != 0 {
         return Flow::Barred;
-    };
-    of_instruction(instruction)
+    }
+    of_row(listed.row, listed.addr)
 }

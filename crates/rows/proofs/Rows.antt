@@ -5,6 +5,7 @@ use mathlib.Core.Bool.{Bool, true, false, not, _&&_, _||_}
 use Prim.Native.Nat.{ℕ, _<_}
 use lib.Dec.{T, eqb, eqb→eq, ltb, ltb→lt}
 use Rattle.laws.proofs.Every.{every-at, and-left, and-right}
+use Rattle.isa.specs.Answers.{Decoding, is, refused}
 use Rattle.isa.specs.Decode.{decodeOf, entryOf, overview, columns}
 use Rattle.isa.specs.Encode.{encodeOf, wordOf, fits}
 use Rattle.isa.specs.declared.AluOp.the-variants.{Add, AddC, Sub, SubC, Or, And, Xor}
@@ -91,5 +92,14 @@ again w h e =
     is-word w (codedAgain w)
     (subst (λ (n : ℕ). T (not (eqb n 0) || isWord w (codedAgain w))) e (every-at comes-back 65536 tt w h))
 
+only3 : Decoding → Bool
+only3 (is i) = true
+only3 (refused n) = eqb n 3
+
+refusals : (w n : ℕ) → w < 65536 → decodeOf w ≡ refused n → n ≡ 3
+unfolding only3 decodeOf entryOf overview columns
+refusals w n h e =
+    eqb→eq n 3 (subst (λ (d : Decoding). T (only3 d)) e (every-at (λ (v : ℕ). only3 (decodeOf v)) 65536 tt w h))
+
 pub rows : Rows
-rows = record { inList = in-list; again = again }
+rows = record { refusals = refusals; inList = in-list; again = again }

@@ -3,6 +3,7 @@
 use mathlib.Core.Path.{_≡_}
 use mathlib.Core.Bool.{false}
 use Prim.Native.Nat.{ℕ, _<_}
+use Rattle.isa.specs.Answers.{refused}
 use Rattle.isa.specs.Decode.{decodeOf}
 use Rattle.isa.specs.declared.Instruction.{Instruction}
 use Rattle.rows.specs.Listing.{rowAt, made, spare, rowOf, firstOf, secondOf, addrOf, listedOf, codedOf}
@@ -21,6 +22,8 @@ codedAgain w =
     codedOf (l .row) (l .first) (l .second) (l .addr)
 
 pub record Rows : Type 0 where
+  -- 3 is the one refusal of a word
+  pub refusals : (w n : ℕ) → w < 65536 → decodeOf w ≡ refused n → n ≡ 3
   pub inList : (i : Instruction) → InList i
   -- a word that is an instruction comes back
   pub again : (w : ℕ) → w < 65536 → (listedOf (decodeOf w)) .number ≡ 0 → codedAgain w ≡ record { number = 0; word = w }

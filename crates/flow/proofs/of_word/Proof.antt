@@ -1,52 +1,39 @@
-use mathlib.Core.Path.{_∙_, ap, sym}
-use Rattle.isa.specs.Answers.{Decoding, decodingOf}
-use Rattle.cpu.specs.Step.{runnable}
-use Rattle.flow.specs.Flow.{decodedFlow}
-use Rattle.flow.proofs.Flows.{unbased}
+use mathlib.Core.Path.{_∙_}
+use Rattle.isa.specs.Decode.{decodeOf}
+use Rattle.rows.proofs.Rows.{rows}
+use Rattle.flow.proofs.RowFlows.{unlisted-flow, listed-below, listed-flow}
 use borrow.Author.Needs.{needs}
 use Rattle.flow.proofs.of_word.Statement.{statement}
 use Rattle.flow.proofs.of_word.Tie as tie
 use Rattle.flow.proofs.of_word.Reads as reads
 use Rattle.flow.proofs.of_word.Lts as lts
-use Rattle.flow.proofs.of_instruction.Reads as of-instruction-reads
-use Rattle.isa.proofs.decode.Reads as decode-reads
+use Rattle.flow.proofs.of_row.Reads as of-row-reads
+use Rattle.rows.proofs.decode.Reads as decode-reads
 
--- src/lib.rt:91:45
+-- src/lib.rt:56:9
 decode-requires : tie.Need-decode-requires
 decode-requires c κs = search needs
 
--- src/lib.rt:91:30
-enum-known-instruction : tie.Need-enum-known-instruction
-enum-known-instruction c = search needs
-
--- src/lib.rt:92:9
-enum-told : tie.Need-enum-told
-enum-told c = search needs
-
--- src/lib.rt:92:9
+-- src/lib.rt:58:9
 returns : tie.Need-returns
-unfolding runnable
 returns c =
-    ap (λ (d : Decoding). decodedFlow (runnable d)) (sym (ap decodingOf (c .enum-told .given .1)) ∙ c .before .before .decode .ensures)
+    let s = c .before .before .before in
+    let d = c .before .before .decode in
+    unlisted-flow (d .result) (decodeOf (s .args .word)) (d .ensures) (c .if1 .taken)
 
--- src/lib.rt:94:5
-of-instruction-requires : tie.Need-of-instruction-requires
-of-instruction-requires c κs = search needs
+-- src/lib.rt:60:5
+of-row-requires : tie.Need-of-row-requires
+of-row-requires c κs =
+    let d = c .before .before .decode in
+    listed-below (d .result) (decodeOf (c .before .before .before .args .word)) (d .ensures)
 
--- src/lib.rt:88:1
+-- src/lib.rt:53:1
 returns-2 : tie.Need-returns-2
 returns-2 c =
-    let i = c .before .before .instruction .given .0 .0 in
-    c .of-instruction .ensures ∙ sym (unbased i)
-    ∙ ap (λ (d : Decoding). decodedFlow (runnable d)) (sym (ap decodingOf (c .before .before .instruction .given .1)) ∙ c .before .before .before .before .decode .ensures)
+    let s = c .before .before .before .before in
+    let d = c .before .before .before .decode in
+    c .of-row .ensures
+    ∙ listed-flow (d .result) (decodeOf (s .args .word)) (d .ensures) (λ n. rows .refusals (s .args .word) n (s .fits .word .fits)) (c .before .if1 .left)
 
 pub of-word-spec : {M : Type 1} → statement M
-of-word-spec =
-    tie.close
-    (tie.spec
-    decode-requires
-    enum-known-instruction
-    enum-told
-    returns
-    of-instruction-requires
-    returns-2)
+of-word-spec = tie.close (tie.spec decode-requires returns of-row-requires returns-2)
