@@ -4,13 +4,13 @@ use mathlib.Core.Path.{_≡_, refl, ap, sym, subst, _∙_}
 use mathlib.Core.Bool.{Bool, true, false}
 use Prim.Native.Nat.{ℕ, _<_}
 use native.Mathlib.Omega.{arith}
 use Rattle.isa.specs.Answers.{Decoding, Encoding, is, refused}
 use Rattle.isa.specs.Decode.{decodeOf}
 use Rattle.isa.specs.Encode.{wordOf, encodeOf, fits, fitted}
-use Rattle.isa.specs.RoundTrip.{IsWordOf, OneWord, Its, RoundTrip}
+use Rattle.isa_laws.specs.RoundTrip.{IsWordOf, OneWord, Its, RoundTrip}
 use Rattle.isa.specs.declared.Instruction.{Instruction}
-use Rattle.isa.proofs.Back.{back}
-use Rattle.isa.proofs.Forth.{forth}
+use Rattle.isa_laws.proofs.Back.{back}
+use Rattle.isa_laws.proofs.Forth.{forth}
 
 -- an answer without refusal: the operands fit, and the word is the list's
 fitted-word : (b : Bool) (v w : ℕ) → fitted b v ≡ record { refusal = 0; word = w } → (b ≡ true) × (v ≡ w)
