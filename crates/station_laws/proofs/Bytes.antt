@@ -9,10 +9,10 @@ use native.Mathlib.Omega.{arith}
 use borrow.Author.Tests.{ltb-true}
 use lib.Arith.{digits-lt, digits-div, mod-mul}
 use lib.Dec.{ltb}
 use Rattle.station_file.specs.Reading.{got, numberFrom, number}
 use Rattle.station_file.specs.Write.{bytesOf, everyAt}
-use Rattle.station_file.specs.RoundTrip.{below}
-use Rattle.station_file.proofs.Readings.{not-got}
+use Rattle.station_laws.specs.RoundTrip.{below}
+use Rattle.station_laws.proofs.Readings.{not-got}
 
 -- `below`, element by element
 abbrev pub Bytes : List ℕ → Type 0

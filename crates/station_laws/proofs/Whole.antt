@@ -7,12 +7,12 @@ use native.Mathlib.Omega.{arith}
 use borrow.Author.Tests.{eqb-true, eq-eqb}
 use lib.Dec.{eqb}
 use lib.ListN.{length}
 use Rattle.station_file.specs.Reading.{got, number, tested}
 use Rattle.station_file.specs.Station.{Form, Station, ended, romSection, sheetSection, inputSection, parseOf}
 use Rattle.station_file.specs.Write.{bytesOf, wordBytes, records, renderOf}
-use Rattle.station_file.proofs.Readings.{not-got, then-got, got-then, tested-got, got-tested}
-use Rattle.station_file.proofs.Bytes.{Bytes, bytes-after, number-back, number-forth}
-use Rattle.station_file.proofs.SectionLaws.{Rom, rom-back, rom-forth, rom-written, Sheet, sheet-back, sheet-forth, sheet-written, Inputs, inputs-back, inputs-forth, inputs-written}
+use Rattle.station_laws.proofs.Readings.{not-got, then-got, got-then, tested-got, got-tested}
+use Rattle.station_laws.proofs.Bytes.{Bytes, bytes-after, number-back, number-forth}
+use Rattle.station_laws.proofs.SectionLaws.{Rom, rom-back, rom-forth, rom-written, Sheet, sheet-back, sheet-forth, sheet-written, Inputs, inputs-back, inputs-forth, inputs-written}
 
 -- a station at the end of its file
 record Ended (s : Station) (left : List ℕ) (t : Station) (rest : List ℕ) : Type 0 where

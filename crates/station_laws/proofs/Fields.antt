@@ -6,10 +6,10 @@ use mathlib.Core.Bool.{Bool, true, and-eq-true-iff}
 use mathlib.Core.List.{List, [], _∷_, _++_, append-assoc}
 use Prim.Native.Nat.{ℕ, zero, suc, _^_, _<_}
 use lib.ListN.{length}
 use Rattle.station_file.specs.Reading.{Reading, got, andThen, tested, number, fields}
 use Rattle.station_file.specs.Write.{bytesOf, everyAt}
-use Rattle.station_file.proofs.Readings.{then-got, got-then, tested-got, got-tested}
-use Rattle.station_file.proofs.Bytes.{Bytes, bytes-after, number-back, number-forth}
+use Rattle.station_laws.proofs.Readings.{then-got, got-then, tested-got, got-tested}
+use Rattle.station_laws.proofs.Bytes.{Bytes, bytes-after, number-back, number-forth}
 
 -- a field, the test of its values by their index, and how one and many are written
 pub record Codec : Type 0 where

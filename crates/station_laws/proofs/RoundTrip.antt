@@ -8,13 +8,13 @@ use native.Mathlib.Omega.{arith}
 use borrow.Author.Tests.{leb-true, eqb-true, eq-eqb}
 use lib.Dec.{eqb, ltb, leb, lit<}
 use lib.ListN.{length}
 use Rattle.station_file.specs.Reading.{got}
 use Rattle.station_file.specs.Station.{Form, form1, Station, recordBytes, romCount, sheetCount, parseOf}
 use Rattle.station_file.specs.Write.{bytesOf, wordBytes, records, renderOf, faultOf}
-use Rattle.station_file.specs.RoundTrip.{below, Fits, RoundTrip}
-use Rattle.station_file.proofs.Bytes.{bytes-below}
-use Rattle.station_file.proofs.Whole.{File, flat, parse-back, parse-forth, render-file}
-use Rattle.station_file.proofs.Faults.{Good, good-of, no-fault}
+use Rattle.station_laws.specs.RoundTrip.{below, Fits, RoundTrip}
+use Rattle.station_laws.proofs.Bytes.{bytes-below}
+use Rattle.station_laws.proofs.Whole.{File, flat, parse-back, parse-forth, render-file}
+use Rattle.station_laws.proofs.Faults.{Good, good-of, no-fault}
 
 -- counts that the writer takes fit their bytes
 rom-fits : (n : ℕ) → romCount n ≡ true → n ≤ 1024

@@ -9,12 +9,12 @@ use lib.Dec.{ltb, leb}
 use lib.ListN.{length}
 use Rattle.memory.specs.Chip.{upd17132}
 use Rattle.verifier.specs.Entry.{proper}
 use Rattle.station_file.specs.Reading.{got, tested, byte}
 use Rattle.station_file.specs.Station.{Form, recordBytes, inputByte, romCount, wordField, romSection, sheetCount, sheetSection, inputSection}
 use Rattle.station_file.specs.Write.{bytesOf, wordBytes}
-use Rattle.station_file.proofs.Readings.{not-got, tested-got, got-tested}
-use Rattle.station_file.proofs.Bytes.{Bytes, number-back, number-forth}
-use Rattle.station_file.proofs.Fields.{Codec, Lawful, Section, section-back, section-forth, section-written}
+use Rattle.station_laws.proofs.Readings.{not-got, tested-got, got-tested}
+use Rattle.station_laws.proofs.Bytes.{Bytes, number-back, number-forth}
+use Rattle.station_laws.proofs.Fields.{Codec, Lawful, Section, section-back, section-forth, section-written}
 
 -- words of two bytes
 abbrev pub words : Codec

@@ -11,10 +11,10 @@ use lib.ListN.{length}
 use borrow.Author.Tests.{leb-true}
 use Rattle.memory.specs.Chip.{upd17132}
 use Rattle.verifier.specs.Entry.{proper}
 use Rattle.station_file.specs.Reading.{Reading, got, refused, andThen, tested, byte, number, fields}
 use Rattle.station_file.specs.Station.{Station, form1, romCount, sheetCount, inputByte, wordField, entryField, inputField, romSection, sheetSection, inputSection, ended, parseOf}
-use Rattle.station_file.specs.Sizes.{Small, Sizes}
+use Rattle.station_laws.specs.Sizes.{Small, Sizes}
 use Rattle.station_file.proofs.Checks.{words-bound, entries-bound}
 
 -- what was read first, and what from the bytes that were left
 record Split {A B : Type 0} (r : Reading A) (f : A → List ℕ → Reading B) (v : B) (rest : List ℕ) : Type 0 where
