@@ -6,7 +6,7 @@ use Prim.Native.Nat.{ℕ, suc}
 use native.Mathlib.Omega.{arith}
 use lib.ListN.{length}
 use Rattle.memory.specs.Chip.{upd17132}
-use Rattle.verifier.specs.Entry.{proper}
+use Rattle.clearance.specs.Entry.{proper}
 use Rattle.station_file.specs.Station.{Form, Station, inputByte, romCount, sheetCount}
 use Rattle.station_file.specs.Write.{everyAt, inputCount, faultOf}
 

@@ -8,7 +8,7 @@ use borrow.Author.Tests.{ltb-true, lt-ltb}
 use lib.Dec.{ltb, leb}
 use lib.ListN.{length}
 use Rattle.memory.specs.Chip.{upd17132}
-use Rattle.verifier.specs.Entry.{proper}
+use Rattle.clearance.specs.Entry.{proper}
 use Rattle.station_file.specs.Reading.{got, tested, byte}
 use Rattle.station_file.specs.Station.{Form, recordBytes, inputByte, romCount, wordField, romSection, sheetCount, sheetSection, inputSection}
 use Rattle.station_file.specs.Write.{bytesOf, wordBytes}

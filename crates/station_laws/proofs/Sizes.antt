@@ -10,7 +10,7 @@ use lib.Dec.{eqb, leb}
 use lib.ListN.{length}
 use borrow.Author.Tests.{leb-true}
 use Rattle.memory.specs.Chip.{upd17132}
-use Rattle.verifier.specs.Entry.{proper}
+use Rattle.clearance.specs.Entry.{proper}
 use Rattle.station_file.specs.Reading.{Reading, got, refused, andThen, tested, byte, number, fields}
 use Rattle.station_file.specs.Station.{Station, form1, romCount, sheetCount, inputByte, wordField, entryField, inputField, romSection, sheetSection, inputSection, ended, parseOf}
 use Rattle.station_laws.specs.Sizes.{Small, Sizes}

@@ -14,9 +14,9 @@ use Rattle.memory.specs.Chip.{Chip}
 use Rattle.cpu.proofs.Inside.{both}
 use Rattle.flow.specs.declared.Flow.{Flow}
 use Rattle.flow.specs.declared.Flow.the-variants.{ReturnsSkip, ReadsTable}
-use Rattle.verifier.specs.Entry.{reached, holds, covers, shares, atMost}
-use Rattle.verifier.specs.Rules.{Ask, isReturnSkip, entryAt, flowAt, next, met, allMet, skipReturnBelow, skipReturns, rule3, rule4, rule5, rule6, whereReached, ruleOf, EveryRule}
-use Rattle.verifier.proofs.Entries.{holds-reached, covers-holds, shares-both}
+use Rattle.clearance.specs.Entry.{reached, holds, covers, shares, atMost}
+use Rattle.clearance.specs.Rules.{Ask, isReturnSkip, entryAt, flowAt, next, met, allMet, skipReturnBelow, skipReturns, rule3, rule4, rule5, rule6, whereReached, ruleOf, EveryRule}
+use Rattle.clearance.proofs.Entries.{holds-reached, covers-holds, shares-both}
 
 module _ (chip : Chip) (rom depths : List ℕ) (every : EveryRule chip rom depths) where
   abbrev E : ℕ → ℕ

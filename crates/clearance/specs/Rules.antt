@@ -11,7 +11,7 @@ use Rattle.memory.specs.Chip.{Chip}
 use Rattle.flow.specs.Flow.{wordFlow}
 use Rattle.flow.specs.declared.Flow.{Flow}
 use Rattle.flow.specs.declared.Flow.the-variants.{Onward, Skips, Branches, Calls, Returns, ReturnsSkip, ReadsTable, StandsBy, Barred}
-use Rattle.verifier.specs.Entry.{Entry, unreached, reached, proper, holds, covers, shares, raised, atMost, atLeast}
+use Rattle.clearance.specs.Entry.{Entry, unreached, reached, proper, holds, covers, shares, raised, atMost, atLeast}
 
 abbrev pub isReturnSkip : Flow → Bool
 isReturnSkip Onward = false

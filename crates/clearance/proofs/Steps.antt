@@ -30,10 +30,10 @@ use Rattle.flow.specs.FlowLaw.{flowControl}
 use Rattle.flow.specs.declared.Flow.{Flow}
 use Rattle.flow.specs.declared.Flow.the-variants.{ReadsTable, Barred}
 use Rattle.flow.proofs.Flows.{flow-law, no-table, word-flow}
-use Rattle.verifier.specs.Calls.{Tally, counted, afterReply, stepTally}
-use Rattle.verifier.specs.Rules.{entryAt, flowAt, rule3, EveryRule}
-use Rattle.verifier.proofs.Paths.{OnPath, Kept, follows}
-use Rattle.verifier.proofs.Ruled.{Stands, table-whole, third, fourth, fifth, sixth}
+use Rattle.clearance.specs.Calls.{Tally, counted, afterReply, stepTally}
+use Rattle.clearance.specs.Rules.{entryAt, flowAt, rule3, EveryRule}
+use Rattle.clearance.proofs.Paths.{OnPath, Kept, follows}
+use Rattle.clearance.proofs.Ruled.{Stands, table-whole, third, fourth, fifth, sixth}
 
 module _ (chip : Chip) (small : chip .levels ≤ places) (some : 0 < chip .levels)
     (fits : (cells : List ℕ) → cellsInRange chip cells ≡ true → arOf cells < 2 ^ 10)

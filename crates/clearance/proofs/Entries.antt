@@ -8,7 +8,7 @@ use borrow.Author.Tests.{leb-true, le-leb, eqb-true, eq-eqb}
 use lib.Dec.{eqb, leb}
 use Rattle.memory.specs.Chip.{Chip, upd17132}
 use Rattle.cpu.proofs.Inside.{both}
-use Rattle.verifier.specs.Entry.{reached, holds, covers, shares, raised, atMost, atLeast}
+use Rattle.clearance.specs.Entry.{reached, holds, covers, shares, raised, atMost, atLeast}
 
 pub and-true : (a : Bool) → (a && true) ≡ a
 and-true true = refl

@@ -26,12 +26,12 @@ use Rattle.cpu.proofs.ArFits.{ar-fits}
 use Rattle.cpu.proofs.Inside.{both, all-parts}
 use Rattle.cpu.proofs.Ranged.{ArFits, steps}
 use Rattle.cpu.proofs.Turns.{all-of}
-use Rattle.verifier.specs.Calls.{Call, step, run, stepInPlace, runInPlace, ownInRange, Tally, noCalls, afterReply, ifGoesOn, stepTally, runTally, refusalAt, leftBy, tallyAfter}
-use Rattle.verifier.specs.Entry.{holds}
-use Rattle.verifier.specs.Rules.{EveryRule, entryAt, flowAt, rule1, ruleOf}
-use Rattle.verifier.specs.Safe.{Moment, Allowed, Within, During, Good, Safe}
-use Rattle.verifier.proofs.Paths.{OnPath}
-use Rattle.verifier.proofs.Steps.{Fair, stepped}
+use Rattle.clearance.specs.Calls.{Call, step, run, stepInPlace, runInPlace, ownInRange, Tally, noCalls, afterReply, ifGoesOn, stepTally, runTally, refusalAt, leftBy, tallyAfter}
+use Rattle.clearance.specs.Entry.{holds}
+use Rattle.clearance.specs.Rules.{EveryRule, entryAt, flowAt, rule1, ruleOf}
+use Rattle.clearance.specs.Safe.{Moment, Allowed, Within, During, Good, Safe}
+use Rattle.clearance.proofs.Paths.{OnPath}
+use Rattle.clearance.proofs.Steps.{Fair, stepped}
 
 module _ (chip : Chip) (small : chip .levels ≤ places) (some : 0 < chip .levels) (addresses : ArFits chip)
     (fits : (cells : List ℕ) → cellsInRange chip cells ≡ true → arOf cells < 2 ^ 10)

@@ -20,11 +20,11 @@ use Rattle.cpu.proofs.Inside.{both}
 use Rattle.flow.specs.FlowLaw.{flowControl}
 use Rattle.flow.specs.declared.Flow.{Flow}
 use Rattle.flow.specs.declared.Flow.the-variants.{Onward, Skips, Branches, Calls, Returns, ReturnsSkip, ReadsTable, StandsBy, Barred}
-use Rattle.verifier.specs.Calls.{Tally, counted}
-use Rattle.verifier.specs.Entry.{holds, raised, atMost, atLeast}
-use Rattle.verifier.specs.Rules.{Ask, entryAt, flowAt, next, allMet, skipReturns, rule3, rule4, asks5, rule5, rule6, EveryRule}
-use Rattle.verifier.proofs.Entries.{raised-holds, most, least}
-use Rattle.verifier.proofs.Ruled.{Stands, table-free, asked, first-met, rest-met, found}
+use Rattle.clearance.specs.Calls.{Tally, counted}
+use Rattle.clearance.specs.Entry.{holds, raised, atMost, atLeast}
+use Rattle.clearance.specs.Rules.{Ask, entryAt, flowAt, next, allMet, skipReturns, rule3, rule4, asks5, rule5, rule6, EveryRule}
+use Rattle.clearance.proofs.Entries.{raised-holds, most, least}
+use Rattle.clearance.proofs.Ruled.{Stands, table-free, asked, first-met, rest-met, found}
 
 module _ (chip : Chip) (small : chip .levels ≤ places) (some : 0 < chip .levels) (rom depths : List ℕ) (short : length rom ≤ 2 ^ chip .pcBits)
     (every : EveryRule chip rom depths) where

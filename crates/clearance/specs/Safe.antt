@@ -15,9 +15,9 @@ use Rattle.cpu.specs.Ranges.{allInRange, budgetInRange}
 use Rattle.cpu.specs.Step.{stepOf}
 use Rattle.cpu.specs.declared.Input.{Input}
 use Rattle.cpu.specs.declared.Machine.{Machine}
-use Rattle.verifier.specs.Calls.{Call, step, run, stepInPlace, runInPlace, ownInRange, Tally, noCalls, ifGoesOn, stepTally, refusalAt, leftBy, tallyAfter}
-use Rattle.verifier.specs.Entry.{holds}
-use Rattle.verifier.specs.Rules.{entryAt}
+use Rattle.clearance.specs.Calls.{Call, step, run, stepInPlace, runInPlace, ownInRange, Tally, noCalls, ifGoesOn, stepTally, refusalAt, leftBy, tallyAfter}
+use Rattle.clearance.specs.Entry.{holds}
+use Rattle.clearance.specs.Rules.{entryAt}
 
 module _ (chip : Chip) (rom depths : List ℕ) where
   -- a moment: the PC lies in the ROM, and its entry and the record's open levels are the number of open calls, which are
