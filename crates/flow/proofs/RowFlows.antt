@@ -16,7 +16,7 @@ use Rattle.isa.specs.declared.Instruction.the-variants.{AluRegister, AluImmedia
 use Rattle.isa.specs.declared.SkipOp.the-variants.{Skt, Skf, Ske, Skne, Skge, Sklt}
 use Rattle.rows.specs.Listing.{list, rowAt, rowOf, addrOf, listedOf}
 use Rattle.rows.specs.declared.Listed.{Listed}
-use Rattle.rows.proofs.Rows.{rows}
+use Rattle.rows.proofs.Rows.{rows, neither}
 use Rattle.cpu.specs.Step.{runnable}
 use Rattle.flow.specs.Flow.{flowOf, rowFlow, decodedFlow}
 use Rattle.flow.specs.declared.Flow.{Flow}
@@ -122,9 +122,6 @@ by-row (Fixed Reti) = refl
 by-row (Fixed Ei) = refl
 by-row (Fixed Di) = refl
 by-row (Fixed Nop) = refl
-
-neither : {n : ℕ} → n ≡ 3 → n ≡ 0 → ⊥
-neither a b = omega (arith, a, b)
 
 -- what a word is listed as has its flow, and what is not listed is barred
 module _ (l : Listed) (d : Decoding) (e : l ≡ listedOf d) where

@@ -1,4 +1,3 @@
 pub mod Answers
 pub mod Decode
 pub mod Encode
-pub mod RoundTrip

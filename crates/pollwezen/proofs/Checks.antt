@@ -9,7 +9,7 @@ use native.Mathlib.Omega.{arith}
 use lib.Dec.{eqb}
 use Rattle.memory.specs.Chip.{upd17132}
 use Rattle.verifier.proofs.Verdicts.{faithful as told}
-use Rattle.verifier.specs.Safe.{Safe}
+use Rattle.clearance.specs.Safe.{Safe}
 use Rattle.verifier.specs.Verdict.{Answer, pass, fail, refused, answerOf, verifyOf, Clear}
 use Rattle.verifier.specs.declared.Verdict.{Verdict}
 use Rattle.verifier.specs.declared.Verdict.the-variants.{Pass, Fail, RomLength, SheetLength}

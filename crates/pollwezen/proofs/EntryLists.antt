@@ -10,9 +10,9 @@ use Rattle.cpu.specs.Answers.{Reply, done, inStandby, refused, refusalOf}
 use Rattle.cpu.specs.InPlace.{stepInPlaceOf}
 use Rattle.cpu.specs.Parts.{resetMachine}
 use Rattle.cpu.specs.declared.Machine.{Machine}
-use Rattle.verifier.specs.Calls.{Call, Tally, noCalls, ownInRange, refusalAt, tallyAfter}
-use Rattle.verifier.specs.Calls as calls
-use Rattle.verifier.specs.Safe.{Moment, Allowed, During, Good, Safe}
+use Rattle.clearance.specs.Calls.{Call, Tally, noCalls, ownInRange, refusalAt, tallyAfter}
+use Rattle.clearance.specs.Calls as calls
+use Rattle.clearance.specs.Safe.{Moment, Allowed, During, Good, Safe}
 use Rattle.pollwezen.specs.Exports.{machineOf, recordOf, inputOf, numberOf, Faithful, Follows}
 use Rattle.pollwezen.specs.SafeEntries.{EntryCall, step, run, inPlace, refusalIn, refusalBy, leftBy, AllowedEntry, GoodEntries, SafeEntries}
 use Rattle.pollwezen.specs.declared.Numbered.{Numbered}

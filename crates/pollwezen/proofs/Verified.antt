@@ -5,7 +5,7 @@ use mathlib.Core.List.{List}
 use mathlib.Core.Logic.{_↔_}
 use Prim.Native.Nat.{ℕ}
 use Rattle.memory.specs.Chip.{upd17132}
-use Rattle.verifier.specs.Safe.{Safe}
+use Rattle.clearance.specs.Safe.{Safe}
 use Rattle.verifier.specs.Verdict.{pass, answerOf, verifyOf, Clear}
 use Rattle.verifier.specs.declared.Verdict.{Verdict}
 use Rattle.pollwezen.specs.Exports.{checkedOf}

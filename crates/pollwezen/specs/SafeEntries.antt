@@ -8,8 +8,8 @@ use mathlib.Core.Logic.{_⊎_}
 use Prim.Native.Nat.{ℕ}
 use lib.Dec.{eqb}
 use Rattle.memory.specs.Chip.{upd17132}
-use Rattle.verifier.specs.Calls.{Call, stepInPlace, runInPlace, ownInRange, Tally, noCalls, tallyAfter}
-use Rattle.verifier.specs.Safe.{Moment, During}
+use Rattle.clearance.specs.Calls.{Call, stepInPlace, runInPlace, ownInRange, Tally, noCalls, tallyAfter}
+use Rattle.clearance.specs.Safe.{Moment, During}
 use Rattle.pollwezen.specs.Exports.{machineOf, inputOf, resetRecord, stepRecordOf, runRecordOf}
 use Rattle.pollwezen.specs.declared.Inputs.{Inputs}
 use Rattle.pollwezen.specs.declared.Record.{Record}

@@ -4,7 +4,7 @@ mod records;
 ghost use mathlib.Core.Path.{_≡_};
 ghost use mathlib.Core.Logic.{_↔_};
 ghost use Rattle.memory.specs.Chip.{upd17132};
-ghost use Rattle.verifier.specs.Safe.{Safe};
+ghost use Rattle.clearance.specs.Safe.{Safe};
 ghost use Rattle.verifier.specs.Verdict.{Clear, verifyOf};
 ghost use Rattle.pollwezen.specs.SafeEntries.{SafeEntries};
 ghost use Rattle.pollwezen.specs.Exports.{checkedOf, numbered, reported, resetRecord, runRecordOf, stepRecordOf};

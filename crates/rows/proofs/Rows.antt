@@ -1,21 +1,24 @@
 -- Each instruction has its row, and each word comes back from its row.
 -- Assumes nothing.
-use mathlib.Core.Path.{_≡_, refl, subst}
-use mathlib.Core.Bool.{Bool, true, false, not, _&&_, _||_}
-use Prim.Native.Nat.{ℕ, _<_}
+use mathlib.Core.Path.{_≡_, _∙_, ap, refl, subst, sym}
+use mathlib.Core.Bool.{Bool, true, false, _||_}
+use Prim.Native.Nat.{ℕ, _/_, _%_, _<_}
+use native.Mathlib.Omega.{arith}
+use borrow.Author.Tests.{eqb-true, lt-ltb}
 use lib.Dec.{T, eqb, eqb→eq, ltb, ltb→lt}
-use Rattle.laws.proofs.Every.{every-at, and-left, and-right}
+use Rattle.laws.specs.Every.{every}
+use Rattle.laws.proofs.Every.{every-at}
 use Rattle.isa.specs.Answers.{Decoding, is, refused}
-use Rattle.isa.specs.Decode.{decodeOf, entryOf, overview, columns}
-use Rattle.isa.specs.Encode.{encodeOf, wordOf, fits}
+use Rattle.isa.specs.Decode.{decodeOf, entryOf, groupOf, overview, columns}
+use Rattle.isa.specs.Encode.{encodeOf}
 use Rattle.isa.specs.declared.AluOp.the-variants.{Add, AddC, Sub, SubC, Or, And, Xor}
 use Rattle.isa.specs.declared.SkipOp.the-variants.{Skt, Skf, Ske, Skne, Skge, Sklt}
 use Rattle.isa.specs.declared.FixedOp.the-variants.{IncAr, IncIx, Movt, PushAr, PopAr, BrAr, CallAr, Ret, Retsk, Reti, Ei, Di, Nop}
 use Rattle.isa.specs.declared.Instruction.{Instruction}
 use Rattle.isa.specs.declared.Instruction.the-variants.{AluRegister, AluImmediate, Skip, Rorc, Ld, St, MovToIndirect, MovFromIndirect, MovImmediate, Peek, Poke, Get, Put, Br, Call, Stop, Halt, Fixed}
-use Rattle.rows.specs.Listing.{list, rowAt, made, spare, rowOf, firstOf, secondOf, addrOf, listedOf, codedOf}
+use Rattle.rows.specs.Listing.{list, rowAt, made, spare, rowOf, firstOf, secondOf, addrOf, listedOf, codedOf, ofEncoding}
 use Rattle.rows.specs.Rows.{InList, Rows, codedAgain}
-use Rattle.rows.specs.declared.Coded.{Coded}
+use Rattle.isa_laws.proofs.RoundTrip.{its-word}
 
 abbrev found : (i : Instruction) (below : T (ltb (rowOf i) 47))
     (makes : made (rowAt (rowOf i)) (firstOf i) (secondOf i) (addrOf i) ≡ i)
@@ -72,34 +75,51 @@ in-list (Stop s) = found (Stop s) tt refl refl
 in-list (Halt h) = found (Halt h) tt refl refl
 in-list (Fixed Nop) = found (Fixed Nop) tt refl refl
 
-isWord : ℕ → Coded → Bool
-isWord w c = eqb (c .number) 0 && eqb (c .word) w
+pub neither : {n : ℕ} → n ≡ 3 → n ≡ 0 → ⊥
+neither a b = omega (arith, a, b)
 
-is-word : (w : ℕ) (c : Coded) → T (isWord w c) → c ≡ record { number = 0; word = w }
-unfolding isWord
-is-word w c t =
-    let n : c .number ≡ 0 = eqb→eq _ _ (and-left (eqb (c .number) 0) (eqb (c .word) w) t) in
-    let v : c .word ≡ w = eqb→eq _ _ (and-right (eqb (c .number) 0) (eqb (c .word) w) t) in
-    λ i. record { number = n i; word = v i }
-
--- tested at each of the 65,536 words
-comes-back : ℕ → Bool
-comes-back w = not (eqb ((listedOf (decodeOf w)) .number) 0) || isWord w (codedAgain w)
-
-again : (w : ℕ) → w < 65536 → (listedOf (decodeOf w)) .number ≡ 0 → codedAgain w ≡ record { number = 0; word = w }
-unfolding comes-back isWord decodeOf entryOf overview columns encodeOf wordOf fits list rowAt rowOf firstOf secondOf addrOf codedOf
-again w h e =
-    is-word w (codedAgain w)
-    (subst (λ (n : ℕ). T (not (eqb n 0) || isWord w (codedAgain w))) e (every-at comes-back 65536 tt w h))
-
+-- the opcodes but the group's, and the group's rows, columns and low nibbles, refuse with 3 alone
 only3 : Decoding → Bool
 only3 (is i) = true
 only3 (refused n) = eqb n 3
 
+module _ (m x addr : ℕ) where
+  opcodes : (op : ℕ) → op < 32 → T (eqb op 7 || only3 (entryOf op m x addr))
+  unfolding only3 entryOf overview
+  opcodes = every-at (λ (k : ℕ). eqb k 7 || only3 (entryOf k m x addr)) 32 tt
+
+group : (m x : ℕ) → m < 128 → x < 16 → T (only3 (groupOf m x))
+unfolding only3 columns
+group m x hm hx = every-at (λ (k : ℕ). only3 (groupOf m k)) 16 (every-at (λ (j : ℕ). every (λ (k : ℕ). only3 (groupOf j k)) 16) 128 tt m hm) x hx
+
+three : (op m x addr : ℕ) → op < 32 → m < 128 → x < 16 → T (only3 (entryOf op m x addr))
+unfolding entryOf overview
+three op m x addr ho hm hx = by-opcode (eqb op 7) refl
+  where
+    by-opcode : (b : Bool) → eqb op 7 ≡ b → T (only3 (entryOf op m x addr))
+    by-opcode true e = subst (λ (k : ℕ). T (only3 (entryOf k m x addr))) (sym (eqb-true op 7 e)) (group m x hm hx)
+    by-opcode false e = subst (λ (b : Bool). T (b || only3 (entryOf op m x addr))) e (opcodes m x addr op ho)
+
 refusals : (w n : ℕ) → w < 65536 → decodeOf w ≡ refused n → n ≡ 3
-unfolding only3 decodeOf entryOf overview columns
+unfolding only3 decodeOf
 refusals w n h e =
-    eqb→eq n 3 (subst (λ (d : Decoding). T (only3 d)) e (every-at (λ (v : ℕ). only3 (decodeOf v)) 65536 tt w h))
+    eqb→eq n 3
+    (subst (λ (d : Decoding). T (only3 d)) e (three (w / 2048) (w / 16 % 128) (w % 16) (w % 2048) (omega arith) (omega arith) (omega arith)))
+
+-- an instruction's row and operands have its word
+coded : (i : Instruction) → codedOf (rowOf i) (firstOf i) (secondOf i) (addrOf i) ≡ ofEncoding (encodeOf i)
+unfolding codedOf
+coded i =
+    let l = in-list i in
+    rw (lt-ltb (rowOf i) 47 (l .below), l .whole, l .makes)
+
+again : (w : ℕ) → w < 65536 → (listedOf (decodeOf w)) .number ≡ 0 → codedAgain w ≡ record { number = 0; word = w }
+again w h e = go (decodeOf w) refl e
+  where
+    go : (d : Decoding) → decodeOf w ≡ d → (listedOf d) .number ≡ 0
+        → codedOf ((listedOf d) .row) ((listedOf d) .first) ((listedOf d) .second) ((listedOf d) .addr) ≡ record { number = 0; word = w }
+    go (is i) q z = coded i ∙ ap ofEncoding (its-word w i h q .word)
+    go (refused n) q z = absurd (neither (refusals w n h q) z)
 
 pub rows : Rows
 rows = record { refusals = refusals; inList = in-list; again = again }

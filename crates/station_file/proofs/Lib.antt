@@ -8,11 +8,3 @@ pub mod Filled
 pub mod Placing
 pub mod Checks
 pub mod Rendering
-pub mod Sizes
-pub mod Readings
-pub mod Bytes
-pub mod Fields
-pub mod SectionLaws
-pub mod Whole
-pub mod Faults
-pub mod RoundTrip

@@ -2,7 +2,5 @@ pub mod Reading
 pub mod Station
 pub mod Read
 pub mod Write
-pub mod RoundTrip
 pub mod Answers
 pub mod Inside
-pub mod Sizes

@@ -6,7 +6,7 @@ use Prim.Native.Nat.{ℕ, _*_, _%_}
 use lib.Dec.{eqb, ltb, leb}
 use lib.ListN.{length}
 use Rattle.memory.specs.Chip.{upd17132}
-use Rattle.verifier.specs.Entry.{proper}
+use Rattle.clearance.specs.Entry.{proper}
 use Rattle.station_file.specs.Reading.{Reading, got, refused, andThen, tested, byte, number, fields}
 
 -- what differs between the forms of the file

@@ -4,7 +4,7 @@ ghost use mathlib.Core.Path.{_≡_};
 ghost use Prim.Native.Nat.{_≤_};
 ghost use lib.ListN.{length, drop};
 ghost use Rattle.memory.specs.Chip.{upd17132};
-ghost use Rattle.verifier.specs.Entry.{proper};
+ghost use Rattle.clearance.specs.Entry.{proper};
 ghost use Rattle.station_file.specs.Reading.{fields};
 ghost use Rattle.station_file.specs.Station.{inputByte, entryField, inputField};
 ghost use Rattle.station_file.specs.Inside.{scanned, ScanFits};

@@ -15,7 +15,7 @@ use Rattle.laws.proofs.Every.{every-at, every-of, passed, holds}
 use Rattle.laws.proofs.First.{First, first-from, first-is}
 use Rattle.memory.specs.Chip.{Chip}
 use Rattle.cpu.specs.Ranges.{romInRange}
-use Rattle.verifier.specs.Rules.{ruleHolds, EveryRule}
+use Rattle.clearance.specs.Rules.{ruleHolds, EveryRule}
 use Rattle.verifier.specs.Verdict.{Answer, pass, fail, refused, wordHolds, lowestWord, lowestRule, ruled, verifyOf, Clear, Exactly}
 
 module _ (chip : Chip) (rom depths : List ℕ) where

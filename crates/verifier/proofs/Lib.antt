@@ -1,9 +1,4 @@
-pub mod Entries
 pub mod Marks
-pub mod Ruled
-pub mod Paths
-pub mod Steps
-pub mod Safety
 pub mod Exact
 pub mod Scan
 pub mod Promised

@@ -12,8 +12,8 @@ use lib.ListN.{getD, set, length}
 use lib.Seq.{getD-set-same, getD-set-other}
 use Rattle.memory.specs.Chip.{upd17132}
 use Rattle.flow.specs.declared.Flow.{Flow}
-use Rattle.verifier.specs.Entry.{Entry, shares}
-use Rattle.verifier.specs.Rules.{isReturnSkip, entryAt, flowAt, skipReturnBelow, skipReturns}
+use Rattle.clearance.specs.Entry.{Entry, shares}
+use Rattle.clearance.specs.Rules.{isReturnSkip, entryAt, flowAt, skipReturnBelow, skipReturns}
 
 -- a level that is marked, and the others
 pub marked : (seen : List Bool) (e d : ℕ) (b : Bool) → eqb e d ≡ b → e < length seen → getD (set seen e true) d false ≡ (b || getD seen d false)

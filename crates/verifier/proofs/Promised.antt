@@ -5,10 +5,10 @@ use mathlib.Core.List.{List}
 use mathlib.Core.Logic.{_↔_}
 use Prim.Native.Nat.{ℕ}
 use Rattle.memory.specs.Chip.{upd17132}
-use Rattle.verifier.specs.Safe.{Safe}
+use Rattle.clearance.specs.Safe.{Safe}
 use Rattle.verifier.specs.Verdict.{Answer, pass, verifyOf, Clear}
 use Rattle.verifier.proofs.Exact.{exactly}
-use Rattle.verifier.proofs.Safety.{safe}
+use Rattle.clearance.proofs.Safety.{safe}
 
 module _ (rom depths : List ℕ) (a : Answer) (q : a ≡ verifyOf upd17132 rom depths) where
   clear : a ≡ pass → Clear upd17132 rom depths

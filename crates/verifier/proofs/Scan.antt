@@ -15,8 +15,8 @@ use Rattle.laws.proofs.First.{Clear, First, first-is}
 use Rattle.memory.specs.Chip.{Chip, upd17132}
 use Rattle.cpu.specs.Ranges.{romInRange}
 use Rattle.flow.specs.declared.Flow.{Flow}
-use Rattle.verifier.specs.Entry.{Entry, reached}
-use Rattle.verifier.specs.Rules.{entryAt, flowAt, ruleOf, ruleHolds}
+use Rattle.clearance.specs.Entry.{Entry, reached}
+use Rattle.clearance.specs.Rules.{entryAt, flowAt, ruleOf, ruleHolds}
 use Rattle.verifier.specs.Verdict.{Answer, pass, fail, refused, wordHolds, lowestWord, lowestRule, ruled, verifyOf}
 use Rattle.verifier.proofs.Exact.{word-holds, rule-holds, not-true}
 

@@ -1,5 +1,1 @@
-pub mod Entry
-pub mod Rules
-pub mod Calls
-pub mod Safe
 pub mod Verdict

@@ -12,7 +12,7 @@ use Rattle.laws.specs.Every.{every}
 use Rattle.laws.specs.First.{firstFalse}
 use Rattle.memory.specs.Chip.{Chip}
 use Rattle.cpu.specs.Ranges.{romInRange}
-use Rattle.verifier.specs.Rules.{ruleHolds, EveryRule}
+use Rattle.clearance.specs.Rules.{ruleHolds, EveryRule}
 use Rattle.verifier.specs.declared.Verdict.{Verdict}
 use Rattle.verifier.specs.declared.Verdict.the-variants.{Pass, Fail, RomLength, SheetLength}
 

@@ -2,7 +2,7 @@
 ghost use mathlib.Core.Path.{_≡_};
 ghost use mathlib.Core.Logic.{_↔_};
 ghost use Rattle.memory.specs.Chip.{upd17132};
-ghost use Rattle.verifier.specs.Safe.{Safe};
+ghost use Rattle.clearance.specs.Safe.{Safe};
 ghost use Rattle.verifier.specs.Verdict.{answerOf, pass, verifyOf, Clear};
 use crate::Verdict;
 use crate::rules::holds;

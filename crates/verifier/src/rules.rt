@@ -6,7 +6,7 @@ ghost use Prim.Native.Nat.{ℕ, _<_, _≤_};
 ghost use lib.ListN.{getD, length};
 ghost use Rattle.laws.specs.Wrap.{wrapNext};
 ghost use Rattle.memory.specs.Chip.{upd17132};
-ghost use Rattle.verifier.specs.Rules.{allMet, skipReturns, rule1, rule2, rule3, rule4, rule5, rule6, ruleOf};
+ghost use Rattle.clearance.specs.Rules.{allMet, skipReturns, rule1, rule2, rule3, rule4, rule5, rule6, ruleOf};
 use crate::sheet::met;
 use crate::sheet::reached;
 use flow::Flow;

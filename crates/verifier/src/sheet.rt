@@ -4,8 +4,8 @@ ghost use mathlib.Core.Bool.{false, _&&_, _||_};
 ghost use Prim.Native.Nat.{ℕ, _≤_, _<_};
 ghost use lib.ListN.{getD, length};
 ghost use Rattle.memory.specs.Chip.{upd17132};
-ghost use Rattle.verifier.specs.Entry.{reached, covers, shares};
-ghost use Rattle.verifier.specs.Rules.{isReturnSkip, entryAt, flowAt, met, skipReturns};
+ghost use Rattle.clearance.specs.Entry.{reached, covers, shares};
+ghost use Rattle.clearance.specs.Rules.{isReturnSkip, entryAt, flowAt, met, skipReturns};
 use flow::Flow;
 
 // The entry of a word, never reached past the sheet's end.

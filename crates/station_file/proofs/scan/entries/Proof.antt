@@ -1,5 +1,5 @@
 use borrow.Author.Needs.{needs}
-use Rattle.verifier.specs.Entry.{proper}
+use Rattle.clearance.specs.Entry.{proper}
 use Rattle.memory.specs.Chip.{upd17132}
 use Rattle.station_file.proofs.Scanned.{To, none-yet, more-at, early-at, bad-at, all-at}
 use borrow.Author.Tests.{not-true, not-false}

@@ -1,4 +1,4 @@
-use Rattle.verifier.specs.Entry.{proper, reached}
+use Rattle.clearance.specs.Entry.{proper, reached}
 use borrow.Author.Tests.{le-leb, lt-leb}
 use Rattle.station_file.proofs.scan.proper_entry.Statement.{statement}
 use Rattle.station_file.proofs.scan.proper_entry.Tie as tie

@@ -1,7 +1,7 @@
 use Rattle.station_file.proofs.Checks.{passes, fails, rom-count-fails, sheet-count-fails, sheet-fails, part-record, too-many, inputs-fail, no-fault, words-bound, entries-bound}
 use Rattle.station_file.specs.Inside.{formOf}
 use Rattle.station_file.specs.Station.{inputByte}
-use Rattle.verifier.specs.Entry.{proper}
+use Rattle.clearance.specs.Entry.{proper}
 use Rattle.memory.specs.Chip.{upd17132}
 use borrow.Author.Tests.{not-true, not-false}
 use lib.ListN.{length}

@@ -1,7 +1,7 @@
 use mathlib.Core.Path.{_≡_, _∙_, ap, refl, sym}
 use borrow.Author.Tests.{lt-ltb, le-ltb, le-leb, lt-leb, eq-eqb, ne-eqb, not-true, not-false}
-use Rattle.verifier.proofs.Entries.{and-true}
-use Rattle.verifier.specs.Entry.{atMost, raised}
+use Rattle.clearance.proofs.Entries.{and-true}
+use Rattle.clearance.specs.Entry.{atMost, raised}
 use borrow.Author.Needs.{needs}
 use Rattle.verifier.proofs.rules.call_allowed.Statement.{statement}
 use Rattle.verifier.proofs.rules.call_allowed.Tie as tie

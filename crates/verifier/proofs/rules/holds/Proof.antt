@@ -1,5 +1,5 @@
 use mathlib.Core.Path.{_≡_, _∙_, ap, refl, sym}
-use Rattle.verifier.specs.Rules.{ruleOf}
+use Rattle.clearance.specs.Rules.{ruleOf}
 use Rattle.verifier.proofs.Scan.{unreached-holds}
 use borrow.Author.Tests.{not-true, not-false}
 use native.Mathlib.Omega.{arith}

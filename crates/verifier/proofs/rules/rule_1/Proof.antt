@@ -1,7 +1,7 @@
 use mathlib.Core.Path.{_≡_, _∙_, ap, refl, sym}
 use borrow.Author.Tests.{lt-ltb, le-ltb, le-leb, lt-leb, eq-eqb, ne-eqb, not-true, not-false}
-use Rattle.verifier.specs.Rules.{rule1}
-use Rattle.verifier.proofs.Entries.{level-zero}
+use Rattle.clearance.specs.Rules.{rule1}
+use Rattle.clearance.proofs.Entries.{level-zero}
 use Rattle.verifier.proofs.rules.rule_1.Statement.{statement}
 use Rattle.verifier.proofs.rules.rule_1.Tie as tie
 use Rattle.verifier.proofs.rules.rule_1.Reads as reads

@@ -1,7 +1,7 @@
 use mathlib.Core.Path.{_≡_, _∙_, ap, refl, sym}
 use borrow.Author.Tests.{lt-ltb, le-ltb, le-leb, lt-leb, eq-eqb, ne-eqb, not-true, not-false}
-use Rattle.verifier.specs.Entry.{proper}
-use Rattle.verifier.specs.Rules.{rule2}
+use Rattle.clearance.specs.Entry.{proper}
+use Rattle.clearance.specs.Rules.{rule2}
 use borrow.Author.Needs.{needs}
 use Rattle.verifier.proofs.rules.rule_2.Statement.{statement}
 use Rattle.verifier.proofs.rules.rule_2.Tie as tie

@@ -1,5 +1,5 @@
 use mathlib.Core.Path.{_≡_, _∙_, ap, refl, sym}
-use Rattle.verifier.proofs.Entries.{and-true}
+use Rattle.clearance.proofs.Entries.{and-true}
 use borrow.Author.Needs.{needs}
 use Rattle.verifier.proofs.rules.rule_4.Statement.{statement}
 use Rattle.verifier.proofs.rules.rule_4.Tie as tie

@@ -1,5 +1,5 @@
 use mathlib.Core.Path.{_≡_, _∙_, ap, refl, sym}
-use Rattle.verifier.specs.Entry.{atLeast}
+use Rattle.clearance.specs.Entry.{atLeast}
 use borrow.Author.Needs.{needs}
 use Rattle.verifier.proofs.rules.rule_6.Statement.{statement}
 use Rattle.verifier.proofs.rules.rule_6.Tie as tie

@@ -1,6 +1,6 @@
 use mathlib.Core.Path.{_≡_, _∙_, ap, refl, sym}
 use borrow.Author.Tests.{lt-ltb, le-ltb, le-leb, lt-leb, eq-eqb, ne-eqb, not-true, not-false}
-use Rattle.verifier.proofs.Entries.{and-true}
+use Rattle.clearance.proofs.Entries.{and-true}
 use borrow.Author.Needs.{needs}
 use Rattle.verifier.proofs.rules.skip_met.Statement.{statement}
 use Rattle.verifier.proofs.rules.skip_met.Tie as tie

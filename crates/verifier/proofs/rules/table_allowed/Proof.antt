@@ -1,6 +1,6 @@
 use mathlib.Core.Path.{_≡_, _∙_, ap, refl, sym}
 use borrow.Author.Tests.{lt-ltb, le-ltb, le-leb, lt-leb, eq-eqb, ne-eqb, not-true, not-false}
-use Rattle.verifier.specs.Entry.{atMost}
+use Rattle.clearance.specs.Entry.{atMost}
 use Rattle.verifier.proofs.rules.table_allowed.Statement.{statement}
 use Rattle.verifier.proofs.rules.table_allowed.Tie as tie
 use Rattle.verifier.proofs.rules.table_allowed.Reads as reads

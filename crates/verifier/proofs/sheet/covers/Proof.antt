@@ -1,6 +1,6 @@
 use mathlib.Core.Path.{_≡_, _∙_, ap, refl, sym}
 use borrow.Author.Tests.{lt-ltb, le-ltb, le-leb, lt-leb, eq-eqb, ne-eqb, not-true, not-false}
-use Rattle.verifier.specs.Entry.{covers}
+use Rattle.clearance.specs.Entry.{covers}
 use borrow.Author.Needs.{needs}
 use Rattle.verifier.proofs.sheet.covers.Statement.{statement}
 use Rattle.verifier.proofs.sheet.covers.Tie as tie

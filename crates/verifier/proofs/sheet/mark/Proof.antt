@@ -3,7 +3,7 @@ use lib.ListN.{length-set}
 use mathlib.Core.Path.{_≡_, _∙_, ap, refl, sym}
 use borrow.Author.Tests.{lt-ltb, le-ltb, le-leb, lt-leb, eq-eqb, ne-eqb, not-true, not-false}
 use lib.Dec.{eqb}
-use Rattle.verifier.specs.Entry.{shares, reached}
+use Rattle.clearance.specs.Entry.{shares, reached}
 use Rattle.verifier.proofs.Marks.{marked}
 use borrow.Author.Needs.{needs}
 use Rattle.verifier.proofs.sheet.mark.Statement.{statement}

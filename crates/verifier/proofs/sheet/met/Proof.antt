@@ -2,8 +2,8 @@ use mathlib.Core.Path.{_≡_, _∙_, ap, refl, sym}
 use borrow.Author.Tests.{lt-ltb, le-ltb, le-leb, lt-leb, eq-eqb, ne-eqb, not-true, not-false}
 use Prim.Native.Nat.{ℕ}
 use Rattle.memory.specs.Chip.{upd17132}
-use Rattle.verifier.specs.Entry.{covers}
-use Rattle.verifier.specs.Rules.{met}
+use Rattle.clearance.specs.Entry.{covers}
+use Rattle.clearance.specs.Rules.{met}
 use borrow.Author.Needs.{needs}
 use Rattle.verifier.proofs.sheet.met.Statement.{statement}
 use Rattle.verifier.proofs.sheet.met.Tie as tie

@@ -1,5 +1,5 @@
 use mathlib.Core.Path.{_≡_, _∙_, ap, refl, sym}
-use Rattle.verifier.specs.Entry.{reached}
+use Rattle.clearance.specs.Entry.{reached}
 use Rattle.verifier.proofs.sheet.reached.Statement.{statement}
 use Rattle.verifier.proofs.sheet.reached.Tie as tie
 use Rattle.verifier.proofs.sheet.reached.Reads as reads

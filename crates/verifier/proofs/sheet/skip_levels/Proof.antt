@@ -3,7 +3,7 @@ use Prim.Native.Nat.{ℕ, _≤_, _-_}
 use native.Mathlib.Omega.{arith}
 use lib.ListN.{length}
 use borrow.Author.Needs.{needs}
-use Rattle.verifier.specs.Rules.{skipReturns}
+use Rattle.clearance.specs.Rules.{skipReturns}
 use Rattle.verifier.proofs.Marks.{Seen, none-yet, one-more, all-seen}
 use Rattle.verifier.proofs.sheet.skip_levels.Statement.{statement}
 use Rattle.verifier.proofs.sheet.skip_levels.Tie as tie

@@ -1,0 +1,5 @@
+pub mod Entries
+pub mod Ruled
+pub mod Paths
+pub mod Steps
+pub mod Safety

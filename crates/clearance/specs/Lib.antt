@@ -1,0 +1,4 @@
+pub mod Entry
+pub mod Rules
+pub mod Calls
+pub mod Safe

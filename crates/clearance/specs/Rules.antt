@@ -1,0 +1,153 @@
+-- The six clearance rules: document 01, "Clearance rules".
+-- Assumes nothing.
+use mathlib.Core.Bool.{Bool, true, false, _&&_, _||_, cond}
+use mathlib.Core.List.{List, [], _∷_}
+use mathlib.Core.Path.{_≡_}
+use Prim.Native.Nat.{ℕ, zero, suc, _-_, _^_, _<_, _≤_}
+use lib.Dec.{eqb, ltb}
+use lib.ListN.{getD, length}
+use Rattle.laws.specs.Wrap.{wrapNext}
+use Rattle.memory.specs.Chip.{Chip}
+use Rattle.flow.specs.Flow.{wordFlow}
+use Rattle.flow.specs.declared.Flow.{Flow}
+use Rattle.flow.specs.declared.Flow.the-variants.{Onward, Skips, Branches, Calls, Returns, ReturnsSkip, ReadsTable, StandsBy, Barred}
+use Rattle.clearance.specs.Entry.{Entry, unreached, reached, proper, holds, covers, shares, raised, atMost, atLeast}
+
+abbrev pub isReturnSkip : Flow → Bool
+isReturnSkip Onward = false
+isReturnSkip Skips = false
+isReturnSkip (Branches to) = false
+isReturnSkip (Calls to) = false
+isReturnSkip Returns = false
+isReturnSkip ReturnsSkip = true
+isReturnSkip ReadsTable = false
+isReturnSkip StandsBy = false
+isReturnSkip Barred = false
+
+-- a word that a rule names, and the entry that its own entry must cover
+pub record Ask : Type 0 where
+  pub word : ℕ
+  pub entry : Entry
+
+-- a sheet has nothing past its end: never reached
+abbrev pub entryAt : List ℕ → ℕ → Entry
+entryAt depths w = getD depths w unreached
+
+abbrev pub flowAt : List ℕ → ℕ → Flow
+flowAt rom w = wordFlow (getD rom w 0)
+
+-- "Next" is PC + 1, 0 after 1,023
+abbrev pub next : Chip → ℕ → ℕ
+next chip w = wrapNext (chip .pcBits) w
+
+module _ (chip : Chip) (rom depths : List ℕ) where
+  -- "A word named below must lie in the ROM, or the rule that names it is broken"
+  unfoldable pub met : Ask → Bool
+  met a = ltb (a .word) (length rom) && covers chip (entryAt depths (a .word)) (a .entry)
+
+  abbrev pub allMet : List Ask → Bool
+  allMet [] = true
+  allMet (a ∷ rest) = met a && allMet rest
+
+  -- some reached RETSK shares a depth with an entry
+  abbrev pub skipReturnBelow : ℕ → Entry → Bool
+  skipReturnBelow zero e = false
+  skipReturnBelow (suc w) e = (isReturnSkip (flowAt rom w) && shares chip (entryAt depths w) e) || skipReturnBelow w e
+
+  unfoldable pub skipReturns : Entry → Bool
+  skipReturns e = skipReturnBelow (length rom) e
+
+-- Each rule, of a word's number, its flow and its entry.
+
+-- 1: word 0 has level 0, tried at word 0 only, reached or not
+unfoldable pub rule1 : Chip → ℕ → Entry → Bool
+rule1 chip w e = cond (eqb w 0) (holds chip e 0) true
+
+-- 2: every entry is 0 to 5 or 15
+unfoldable pub rule2 : Chip → Entry → Bool
+rule2 chip e = proper chip e
+
+-- 3: an instruction, none of refusal 4, and no BR @AR, CALL @AR, PUSH AR or POP AR; MOVT only in a ROM of 1,024 words (AR has
+-- ten bits) and with a free level
+abbrev pub rule3 : Chip → List ℕ → Flow → Entry → Bool
+rule3 chip rom Onward e = true
+rule3 chip rom Skips e = true
+rule3 chip rom (Branches to) e = true
+rule3 chip rom (Calls to) e = true
+rule3 chip rom Returns e = true
+rule3 chip rom ReturnsSkip e = true
+rule3 chip rom ReadsTable e = eqb (length rom) (2 ^ 10) && atMost (chip .levels - 1) e
+rule3 chip rom StandsBy e = true
+rule3 chip rom Barred e = false
+
+-- 4: except after BR, RET and RETSK next has the same level; after a skip the word after next has it too; BR's target has it.
+-- What is barred breaks rule 3 already.
+abbrev pub asks4 : Chip → ℕ → Flow → Entry → List Ask
+asks4 chip w Onward e = record { word = next chip w; entry = e } ∷ []
+asks4 chip w Skips e = record { word = next chip w; entry = e } ∷ record { word = next chip (next chip w); entry = e } ∷ []
+asks4 chip w (Branches to) e = record { word = to; entry = e } ∷ []
+asks4 chip w (Calls to) e = record { word = next chip w; entry = e } ∷ []
+asks4 chip w Returns e = []
+asks4 chip w ReturnsSkip e = []
+asks4 chip w ReadsTable e = record { word = next chip w; entry = e } ∷ []
+asks4 chip w StandsBy e = record { word = next chip w; entry = e } ∷ []
+asks4 chip w Barred e = []
+
+module _ (chip : Chip) (rom depths : List ℕ) where
+  abbrev pub rule4 : ℕ → Flow → Entry → Bool
+  rule4 w f e = allMet chip rom depths (asks4 chip w f e)
+
+  -- 5: CALL at level 4 or less, the target one higher; where some reached RETSK has that higher level, the word after next
+  -- has CALL's own level
+  abbrev pub asks5 : ℕ → ℕ → Entry → List Ask
+  asks5 w to e =
+      record { word = to; entry = raised e }
+      ∷ cond (skipReturns chip rom depths (raised e)) (record { word = next chip (next chip w); entry = e } ∷ []) []
+
+  abbrev pub rule5 : ℕ → Flow → Entry → Bool
+  rule5 w Onward e = true
+  rule5 w Skips e = true
+  rule5 w (Branches to) e = true
+  rule5 w (Calls to) e = atMost (chip .levels - 1) e && allMet chip rom depths (asks5 w to e)
+  rule5 w Returns e = true
+  rule5 w ReturnsSkip e = true
+  rule5 w ReadsTable e = true
+  rule5 w StandsBy e = true
+  rule5 w Barred e = true
+
+-- 6: RET and RETSK at level 1 or more
+abbrev pub rule6 : Flow → Entry → Bool
+rule6 Onward e = true
+rule6 Skips e = true
+rule6 (Branches to) e = true
+rule6 (Calls to) e = true
+rule6 Returns e = atLeast 1 e
+rule6 ReturnsSkip e = atLeast 1 e
+rule6 ReadsTable e = true
+rule6 StandsBy e = true
+rule6 Barred e = true
+
+-- rules 3 to 6 are those of reached words
+abbrev pub whereReached : Chip → Entry → Bool → Bool
+whereReached chip e b = cond (reached chip e) b true
+
+module _ (chip : Chip) (rom depths : List ℕ) where
+  -- the rules by number, 1 to 6
+  unfoldable pub ruleOf : ℕ → Flow → Entry → ℕ → Bool
+  ruleOf w f e r =
+      getD
+      (rule1 chip w e
+      ∷ rule2 chip e
+      ∷ whereReached chip e (rule3 chip rom f e)
+      ∷ whereReached chip e (rule4 chip rom depths w f e)
+      ∷ whereReached chip e (rule5 chip rom depths w f e)
+      ∷ whereReached chip e (rule6 f e)
+      ∷ [])
+      (r - 1) false
+
+  abbrev pub ruleHolds : ℕ → ℕ → Bool
+  ruleHolds w r = ruleOf w (flowAt rom w) (entryAt depths w) r
+
+  -- every rule holds at every word
+  abbrev pub EveryRule : Type 0
+  EveryRule = (w r : ℕ) → w < length rom → 1 ≤ r → r ≤ 6 → ruleHolds w r ≡ true

@@ -1,0 +1,56 @@
+-- Demand 3: whatever list of calls is made on a passed ROM from reset, no call is refused that has its own inputs and budget
+-- in range, none with a number other than 1, and at every moment the word about to run lies in the ROM and the open calls
+-- are its level.
+-- Assumes nothing.
+use mathlib.Core.Path.{_≡_}
+use mathlib.Core.Bool.{true, _&&_}
+use mathlib.Core.List.{List, [], _∷_}
+use mathlib.Core.Logic.{_⊎_}
+use Prim.Native.Nat.{ℕ, zero, suc, _+_, _<_}
+use lib.ListN.{length}
+use Rattle.memory.specs.Chip.{Chip}
+use Rattle.cpu.specs.Control.{isStandby}
+use Rattle.cpu.specs.Parts.{resetMachine}
+use Rattle.cpu.specs.Ranges.{allInRange, budgetInRange}
+use Rattle.cpu.specs.Step.{stepOf}
+use Rattle.cpu.specs.declared.Input.{Input}
+use Rattle.cpu.specs.declared.Machine.{Machine}
+use Rattle.clearance.specs.Calls.{Call, step, run, stepInPlace, runInPlace, ownInRange, Tally, noCalls, ifGoesOn, stepTally, refusalAt, leftBy, tallyAfter}
+use Rattle.clearance.specs.Entry.{holds}
+use Rattle.clearance.specs.Rules.{entryAt}
+
+module _ (chip : Chip) (rom depths : List ℕ) where
+  -- a moment: the PC lies in the ROM, and its entry and the record's open levels are the number of open calls, which are
+  -- the calls that have not returned
+  pub record Moment (m : Machine) (t : Tally) : Type 0 where
+    pub inside : m .control .pc < length rom
+    pub opened : t .returns + m .control .levels ≡ t .calls
+    pub level : holds chip (entryAt depths (m .control .pc)) (m .control .levels) ≡ true
+
+  -- a call that has its own inputs and budget in range is not refused, and no call with a number other than 1
+  pub record Allowed (c : Call) (m : Machine) : Type 0 where
+    pub answered : ownInRange c ≡ true → refusalAt chip rom c m ≡ 0
+    pub onlyOne : (refusalAt chip rom c m ≡ 0) ⊎ (refusalAt chip rom c m ≡ 1)
+
+  -- before each step inside a run
+  unfoldable pub Within : Input → ℕ → Machine → Tally → Type 0
+  Within i zero m t = Unit
+  Within i (suc left) m t =
+      let s = stepOf chip rom i m in
+      let rest = Within i left (s .machine) (stepTally chip rom i m t) in
+      Moment m t × ifGoesOn (s .reply) (isStandby (s .machine .control)) rest Unit
+
+  -- a run that refusal 1 meets takes no step
+  abbrev pub During : Call → Machine → Tally → Type 0
+  During (step i) m t = Unit
+  During (run i budget) m t = (allInRange chip rom m i && budgetInRange budget) ≡ true → Within i budget m t
+  During (stepInPlace i) m t = Unit
+  During (runInPlace i budget) m t = (allInRange chip rom m i && budgetInRange budget) ≡ true → Within i budget m t
+
+  -- from a record and the tally so far: the moment before the first call and after every call, and what each call does
+  abbrev pub Good : Machine → Tally → List Call → Type 0
+  Good m t [] = Moment m t
+  Good m t (c ∷ cs) = Moment m t × (Allowed c m × (During c m t × Good (leftBy chip rom c m) (tallyAfter chip rom c m t) cs))
+
+  abbrev pub Safe : Type 0
+  Safe = (calls : List Call) → Good resetMachine noCalls calls

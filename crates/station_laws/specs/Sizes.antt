@@ -1,0 +1,18 @@
+-- How much a good file of form 1 holds, and how long it is: buffers of these sizes are never too short for one. LONGEST of
+-- src/lib.rt is the last number, 2 + 2 + 2,048 + 2 + 1,024 + 2 + 45,045.
+-- Assumes nothing.
+use mathlib.Core.Path.{_≡_}
+use mathlib.Core.List.{List}
+use Prim.Native.Nat.{ℕ, _≤_}
+use lib.ListN.{length}
+use Rattle.station_file.specs.Reading.{got}
+use Rattle.station_file.specs.Station.{Station, form1, parseOf}
+
+pub record Small (xs : List ℕ) (s : Station) : Type 0 where
+  pub rom : length (s .rom) ≤ 1024
+  pub sheet : length (s .sheet) ≤ 1024
+  pub inputs : length (s .inputs) ≤ 45045
+  pub file : length xs ≤ 48125
+
+abbrev pub Sizes : Type 0
+Sizes = (xs : List ℕ) (s : Station) (rest : List ℕ) → parseOf form1 xs ≡ got s rest → Small xs s
