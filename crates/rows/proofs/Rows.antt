@@ -1,15 +1,13 @@
 -- Each instruction has its row, and each word comes back from its row.
 -- Assumes nothing.
-use mathlib.Core.Path.{_≡_, _∙_, ap, refl, subst, sym}
-use mathlib.Core.Bool.{Bool, true, false, _||_}
-use Prim.Native.Nat.{ℕ, _/_, _%_, _<_}
+use mathlib.Core.Path.{_≡_, _∙_, ap, refl}
+use mathlib.Core.Bool.{false}
+use Prim.Native.Nat.{ℕ, _<_}
 use native.Mathlib.Omega.{arith}
-use borrow.Author.Tests.{eqb-true, lt-ltb}
-use lib.Dec.{T, eqb, eqb→eq, ltb, ltb→lt}
-use Rattle.laws.specs.Every.{every}
-use Rattle.laws.proofs.Every.{every-at}
+use borrow.Author.Tests.{lt-ltb}
+use lib.Dec.{T, ltb, ltb→lt}
 use Rattle.isa.specs.Answers.{Decoding, is, refused}
-use Rattle.isa.specs.Decode.{decodeOf, entryOf, groupOf, overview, columns}
+use Rattle.isa.specs.Decode.{decodeOf}
 use Rattle.isa.specs.Encode.{encodeOf}
 use Rattle.isa.specs.declared.AluOp.the-variants.{Add, AddC, Sub, SubC, Or, And, Xor}
 use Rattle.isa.specs.declared.SkipOp.the-variants.{Skt, Skf, Ske, Skne, Skge, Sklt}
@@ -19,6 +17,7 @@ use Rattle.isa.specs.declared.Instruction.the-variants.{AluRegister, AluImmedia
 use Rattle.rows.specs.Listing.{list, rowAt, made, spare, rowOf, firstOf, secondOf, addrOf, listedOf, codedOf, ofEncoding}
 use Rattle.rows.specs.Rows.{InList, Rows, codedAgain}
 use Rattle.isa_laws.proofs.RoundTrip.{its-word}
+use Rattle.rows.proofs.Words.{refusals}
 
 abbrev found : (i : Instruction) (below : T (ltb (rowOf i) 47))
     (makes : made (rowAt (rowOf i)) (firstOf i) (secondOf i) (addrOf i) ≡ i)
@@ -77,34 +76,6 @@ in-list (Fixed Nop) = found (Fixed Nop) tt refl refl
 
 pub neither : {n : ℕ} → n ≡ 3 → n ≡ 0 → ⊥
 neither a b = omega (arith, a, b)
-
--- the opcodes but the group's, and the group's rows, columns and low nibbles, refuse with 3 alone
-only3 : Decoding → Bool
-only3 (is i) = true
-only3 (refused n) = eqb n 3
-
-module _ (m x addr : ℕ) where
-  opcodes : (op : ℕ) → op < 32 → T (eqb op 7 || only3 (entryOf op m x addr))
-  unfolding only3 entryOf overview
-  opcodes = every-at (λ (k : ℕ). eqb k 7 || only3 (entryOf k m x addr)) 32 tt
-
-group : (m x : ℕ) → m < 128 → x < 16 → T (only3 (groupOf m x))
-unfolding only3 columns
-group m x hm hx = every-at (λ (k : ℕ). only3 (groupOf m k)) 16 (every-at (λ (j : ℕ). every (λ (k : ℕ). only3 (groupOf j k)) 16) 128 tt m hm) x hx
-
-three : (op m x addr : ℕ) → op < 32 → m < 128 → x < 16 → T (only3 (entryOf op m x addr))
-unfolding entryOf overview
-three op m x addr ho hm hx = by-opcode (eqb op 7) refl
-  where
-    by-opcode : (b : Bool) → eqb op 7 ≡ b → T (only3 (entryOf op m x addr))
-    by-opcode true e = subst (λ (k : ℕ). T (only3 (entryOf k m x addr))) (sym (eqb-true op 7 e)) (group m x hm hx)
-    by-opcode false e = subst (λ (b : Bool). T (b || only3 (entryOf op m x addr))) e (opcodes m x addr op ho)
-
-refusals : (w n : ℕ) → w < 65536 → decodeOf w ≡ refused n → n ≡ 3
-unfolding only3 decodeOf
-refusals w n h e =
-    eqb→eq n 3
-    (subst (λ (d : Decoding). T (only3 d)) e (three (w / 2048) (w / 16 % 128) (w % 16) (w % 2048) (omega arith) (omega arith) (omega arith)))
 
 -- an instruction's row and operands have its word
 coded : (i : Instruction) → codedOf (rowOf i) (firstOf i) (secondOf i) (addrOf i) ≡ ofEncoding (encodeOf i)
