@@ -1,4 +1,4 @@
-//! Links libpollwezen.a, which `rt staticlib pollwezen` writes, from the
+//! Links libpollwezen.a and liblayout.a, which `rt staticlib` writes, from the
 //! folder in POLLWEZEN_LIB or from ../target/staticlib.
 
 use std::env;
@@ -10,10 +10,12 @@ fn main() {
         Some(folder) => PathBuf::from(folder),
         None => Path::new(&package).join("../target/staticlib"),
     };
-    let library = folder.join("libpollwezen.a");
-    assert!(library.is_file(), "{} is missing: run rt staticlib pollwezen", library.display());
     println!("cargo:rustc-link-search=native={}", folder.display());
-    println!("cargo:rustc-link-lib=static=pollwezen");
-    println!("cargo:rerun-if-changed={}", library.display());
+    for name in ["pollwezen", "layout"] {
+        let library = folder.join(format!("lib{name}.a"));
+        assert!(library.is_file(), "{} is missing: run rt staticlib {name}", library.display());
+        println!("cargo:rustc-link-lib=static={name}");
+        println!("cargo:rerun-if-changed={}", library.display());
+    }
     println!("cargo:rerun-if-env-changed=POLLWEZEN_LIB");
 }

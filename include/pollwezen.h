@@ -1,7 +1,9 @@
 /* Pollwezen: the uPD17132 for a host program in C. Link libpollwezen.a, which `rt staticlib pollwezen` writes.
- * The contracts are in crates/pollwezen/src/lib.rt, the definitions in crates/pollwezen/specs/Exports.antt.
- * The caller keeps what C asks of any call: pointers to as many elements as said, and a lent record that no other
- * argument overlaps. Whatever stands in them is answered or refused. */
+ * The contracts are in crates/pollwezen/src/lib.rt, the definitions in crates/pollwezen/specs/Exports.antt and
+ * crates/replies/specs/Replies.antt.
+ * The caller keeps what C asks of any call: pointers (not NULL, even to none) to as many elements as said, and a lent record or
+ * buffer that no other argument overlaps. Whatever stands in them is answered or refused. No buffer is written past its length,
+ * and none is kept. */
 #ifndef POLLWEZEN_H
 #define POLLWEZEN_H
 
@@ -17,9 +19,15 @@ extern "C" {
  * away then, and do not draw them from that record again. */
 
 /* Numbers that are no refusal. Every other number is one of document 01. */
-#define POLLWEZEN_DONE 0      /* a completed step, a run without a refusal, a sheet that passes */
+#define POLLWEZEN_DONE 0      /* a completed step, a run without a refusal, a sheet that passes, a file or text that was read or written */
 #define POLLWEZEN_FAIL 254    /* a sheet that fails */
 #define POLLWEZEN_STANDBY 255 /* the machine stays in standby */
+
+/* The most that a station file has, and what its text never exceeds. Buffers of these sizes are never too short. */
+#define POLLWEZEN_WORDS 1024        /* ROM words, and sheet entries */
+#define POLLWEZEN_INPUT_BYTES 45045 /* 4,095 input records of eleven bytes */
+#define POLLWEZEN_FILE_BYTES 48125
+#define POLLWEZEN_TEXT_BYTES 100000
 
 /* The machine's record. The marks are 0 or 1. */
 typedef struct {
@@ -51,6 +59,20 @@ typedef struct {
     uint8_t rule;
 } pollwezen_checked;
 
+/* What the reader answers: how many ROM words, sheet entries and input records it wrote, or a refusal with zeros. */
+typedef struct {
+    uint8_t number;
+    size_t words;
+    size_t entries;
+    size_t records;
+} pollwezen_counts;
+
+/* What the writer and the transcript answer: how many bytes they wrote, or a refusal with 0. */
+typedef struct {
+    uint8_t number;
+    size_t length;
+} pollwezen_output;
+
 pollwezen_record pollwezen_reset(void);
 
 /* One step on the lent record. A refusal leaves it as it came. */
@@ -62,6 +84,19 @@ pollwezen_report pollwezen_run(const uint16_t *rom, size_t words, pollwezen_reco
 
 /* The check of a ROM and its sheet, one level a word. */
 pollwezen_checked pollwezen_verify(const uint16_t *rom, size_t words, const uint8_t *depths, size_t entries);
+
+/* Reads a station file to the front of three lent buffers; a sheet of no entries is none. An input record is eleven bytes: five
+ * pins, five directions, release. Refusals: 20 to 25, the last where a buffer is too short. A refused file writes nothing. */
+pollwezen_counts pollwezen_read(const uint8_t *file, size_t bytes, uint16_t *rom, size_t rom_room, uint8_t *sheet,
+                                size_t sheet_room, uint8_t *inputs, size_t inputs_room);
+
+/* Writes a station's file to the front of the lent buffer. Refusals: 22, 23 and 25. A refused station writes nothing. */
+pollwezen_output pollwezen_write(const uint16_t *rom, size_t words, const uint8_t *sheet, size_t entries,
+                                 const uint8_t *inputs, size_t input_bytes, uint8_t *out, size_t room);
+
+/* Puts what the program `station` prints for a file to the front of the lent buffer, with no closing 0. A bad file has a text
+ * too, so the one refusal is 25, and then nothing is written. */
+pollwezen_output pollwezen_transcript(const uint8_t *file, size_t bytes, uint8_t *out, size_t room);
 
 #ifdef __cplusplus
 }

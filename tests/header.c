@@ -1,13 +1,13 @@
-/* Tests include/pollwezen.h against the library: the layout of its structs, and each entry with good and bad input.
- * It prints each line that fails and ends with how many did; the exit status is 0 where none did. */
-#include "pollwezen.h"
+/* Tests include/pollwezen.h against the library: the layout of its structs (layout.c), and each entry with good and bad input,
+ * those for files in files.c. It prints each line that fails and ends with how many did; the exit status is 0 where none did. */
+#include "header.h"
 
 #include <stdio.h>
 #include <string.h>
 
 static int failed;
 
-static void expect(int holds, const char *what) {
+void expect(int holds, const char *what) {
     if (!holds) {
         printf("header: FAILED: %s\n", what);
         failed++;
@@ -17,19 +17,6 @@ static void expect(int holds, const char *what) {
 static int same(const pollwezen_record *a, const pollwezen_record *b) {
     return memcmp(a->cells, b->cells, sizeof a->cells) == 0 && memcmp(a->stack, b->stack, sizeof a->stack) == 0
         && a->pc == b->pc && a->levels == b->levels && a->skip == b->skip && a->standby == b->standby;
-}
-
-/* Where the header puts each field. A step below reads and writes each through the library. */
-static void layout(void) {
-    expect(sizeof(pollwezen_record) == 144 && offsetof(pollwezen_record, cells) == 0, "the record's size");
-    expect(offsetof(pollwezen_record, pc) == 128 && offsetof(pollwezen_record, stack) == 130, "pc and stack");
-    expect(offsetof(pollwezen_record, levels) == 140 && offsetof(pollwezen_record, skip) == 141, "levels and skip");
-    expect(offsetof(pollwezen_record, standby) == 142, "standby");
-    expect(sizeof(pollwezen_input) == 11 && offsetof(pollwezen_input, directions) == 5, "the input's directions");
-    expect(offsetof(pollwezen_input, release) == 10, "release");
-    expect(sizeof(pollwezen_report) == 8 && offsetof(pollwezen_report, number) == 4, "the report");
-    expect(sizeof(pollwezen_checked) == 6 && offsetof(pollwezen_checked, word) == 2, "the verdict's word");
-    expect(offsetof(pollwezen_checked, rule) == 4, "the verdict's rule");
 }
 
 static void reset(void) {
@@ -137,6 +124,7 @@ int main(void) {
     runs();
     ports();
     verdicts();
+    files();
     printf("header: %d failed\n", failed);
     return failed != 0;
 }

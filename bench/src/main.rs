@@ -13,7 +13,8 @@ use std::hint::black_box;
 use std::time::Instant;
 
 use pollwezen_host as proved;
-use reference::{Input, Machine};
+use reference::station::{read_into, write, write_into};
+use reference::{transcript, Input, Machine};
 
 const INPUT: Input = Input { pins: [5, 9, 3, 12, 1], directions: [15, 0, 15, 3, 2], release: 0 };
 
@@ -121,6 +122,47 @@ fn check(pairs: usize) {
     );
 }
 
+/// The largest file: read, written and printed. The proved reader and writer use lent buffers of the largest sizes.
+fn files(pairs: usize) {
+    let station = roms::largest();
+    let file = write(&station).expect("a good station");
+    let inputs = file[file.len() - 11 * station.inputs.len()..].to_vec();
+    let (mut rom, mut sheet, mut held) = ([0; 1024], [0; 1024], vec![0; 45_045]);
+    let mut records = vec![Input::default(); 4095];
+    let (mut rom2, mut sheet2) = ([0; 1024], [0; 1024]);
+    row(
+        "read the largest file, per byte",
+        pairs,
+        file.len() as f64,
+        || read_into(black_box(&file), &mut rom2, &mut sheet2, &mut records).map(|c| c.inputs),
+        || match proved::read(black_box(&file), &mut rom, &mut sheet, &mut held) {
+            counts if counts.number == 0 => Ok(counts.records),
+            counts => Err(counts.number),
+        },
+    );
+    assert!(rom[..] == station.rom && sheet[..] == station.depths && held == inputs);
+    let (mut out, mut out2) = (vec![0; 48_125], vec![0; 48_125]);
+    row(
+        "write the largest file, per byte",
+        pairs,
+        file.len() as f64,
+        || write_into(black_box(&station), &mut out2).expect("room"),
+        || proved::write(black_box(&station.rom), &station.depths, &inputs, &mut out).length,
+    );
+    assert!(out == file && out2 == file);
+    let mut text = vec![0; 100_000];
+    row(
+        "transcript of 4,095 records, per record",
+        pairs,
+        4095.0,
+        || transcript(black_box(&file)).into_bytes(),
+        || {
+            let length = proved::transcript(black_box(&file), &mut text).length;
+            text[..length].to_vec()
+        },
+    );
+}
+
 fn main() {
     let pairs = env::args().nth(1).map_or(301, |n| n.parse().expect("a number of pairs"));
     let blink = roms::blink();
@@ -138,4 +180,5 @@ fn main() {
     }
     steps(&blink, pairs);
     check(pairs);
+    files(pairs);
 }

@@ -1,7 +1,7 @@
 //! The ROMs that are timed. Each goes on for ever and is never refused.
 
-use reference::encode;
 use reference::Instruction::{self, *};
+use reference::{encode, Input, Station};
 
 fn rom(program: &[Instruction]) -> Vec<u16> {
     program.iter().map(|&i| encode(i).expect("operands fit")).collect()
@@ -55,4 +55,12 @@ pub fn calls() -> Vec<u16> {
 /// One branch to itself.
 pub fn branch() -> Vec<u16> {
     rom(&[Br { addr: 0 }])
+}
+
+/// The largest station: blinking, then NOPs, a sheet that passes, and 4,095 input records.
+pub fn largest() -> Station {
+    let mut words = blink();
+    words.resize(1024, encode(Nop).expect("no operand"));
+    let input = Input { pins: [5, 9, 3, 12, 1], directions: [15, 0, 15, 3, 2], release: 0 };
+    Station { rom: words, depths: vec![0; 1024], inputs: vec![input; 4095] }
 }

@@ -11,6 +11,7 @@
 
 #![deny(unsafe_code)]
 
+mod entries;
 mod faults;
 mod files;
 mod lists;
@@ -27,7 +28,7 @@ mod tally;
 mod verdicts;
 mod words;
 
-// The library of this package, src/host.rs.
+// The library of this package, src/host/.
 use pollwezen_host as host;
 
 use std::path::PathBuf;
@@ -61,6 +62,9 @@ fn main() -> ExitCode {
     };
     if !arguments.station.is_file() {
         return failed(&format!("compare: {} is missing", arguments.station.display()));
+    }
+    if let Err(what) = host::layout() {
+        return failed(&format!("compare: layout: {what}"));
     }
     files::PROGRAM.get_or_init(|| arguments.station.clone());
     let good = match arguments.plant {

@@ -3,7 +3,7 @@
 use crate::pair::Finding;
 use crate::random::Random;
 use crate::tally::Tally;
-use crate::{faults, files, lists, steps, verdicts};
+use crate::{entries, faults, files, lists, steps, verdicts};
 
 pub struct Part {
     pub name: &'static str,
@@ -105,9 +105,17 @@ pub const PARTS: &[Part] = &[
         case: lists::list,
     },
     Part {
+        name: "entries",
+        cases: 60_000,
+        few: 500,
+        numbers: &[0, 20, 21, 22, 23, 24, 25],
+        things: &["stations written", "stations refused", "texts", "texts without room"],
+        case: entries::entry,
+    },
+    Part {
         name: "files",
-        cases: 800,
-        few: 200,
+        cases: 300,
+        few: 60,
         numbers: &[],
         things: &[
             "files refused with 20",

@@ -1,7 +1,7 @@
 //! Random stations, and damage to their files.
 
 use reference::verify::entry_in_range;
-use reference::Station;
+use reference::{Input, Station};
 
 use crate::random::Random;
 use crate::records;
@@ -77,6 +77,35 @@ pub fn damage(random: &mut Random, station: &Station, file: &mut Vec<u8>) {
             }
         }
     }
+}
+
+/// One fault in a station for the writer. True where the fault is to be a part
+/// of a record after its inputs.
+pub fn spoil(random: &mut Random, station: &mut Station) -> bool {
+    match random.below(7) {
+        0 => station.rom.clear(),
+        1 => station.rom.resize(1025, 0),
+        2 => station.depths.push(0),
+        3 => {
+            let at = random.below(station.depths.len() as u64 + 1) as usize;
+            if let Some(entry) = station.depths.get_mut(at) {
+                *entry = random.pick(&[6, 14, 16, 255]);
+            }
+        }
+        4 => station.inputs.resize(4096, Input::default()),
+        5 => {
+            let at = random.below(station.inputs.len() as u64 + 1) as usize;
+            if let Some(input) = station.inputs.get_mut(at) {
+                match random.below(3) {
+                    0 => input.pins[random.below(5) as usize] = 16,
+                    1 => input.directions[random.below(5) as usize] = 255,
+                    _ => input.release = 2,
+                }
+            }
+        }
+        _ => return true,
+    }
+    false
 }
 
 /// Another count.

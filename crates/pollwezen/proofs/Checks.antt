@@ -1,20 +1,17 @@
 -- From the check's promises to those of its export.
 -- Assumes nothing.
 use mathlib.Core.Path.{_≡_, _∙_, ap, refl, sym}
-use mathlib.Core.Bool.{cond}
 use mathlib.Core.List.{List}
 use mathlib.Core.Logic.{_↔_}
 use Prim.Native.Nat.{ℕ}
 use native.Mathlib.Omega.{arith}
-use lib.Dec.{eqb}
 use Rattle.memory.specs.Chip.{upd17132}
-use Rattle.verifier.proofs.Verdicts.{faithful as told}
 use Rattle.clearance.specs.Safe.{Safe}
-use Rattle.verifier.specs.Verdict.{Answer, pass, fail, refused, answerOf, verifyOf, Clear}
+use Rattle.verifier.specs.Verdict.{Answer, pass, answerOf, verifyOf, Clear}
 use Rattle.verifier.specs.declared.Verdict.{Verdict}
 use Rattle.verifier.specs.declared.Verdict.the-variants.{Pass, Fail, RomLength, SheetLength}
-use Rattle.pollwezen.specs.Exports.{checkedOf}
-use Rattle.pollwezen.specs.declared.Checked.{Checked}
+use Rattle.replies.specs.Replies.{checkedOf}
+use Rattle.replies.specs.declared.Checked.{Checked}
 
 -- 0 is the number of a sheet that passes, and of no other verdict
 passed : (v : Verdict) → (checkedOf (answerOf v)) .number ≡ 0 → answerOf v ≡ pass
@@ -22,19 +19,6 @@ passed Pass e = refl
 passed (Fail word rule) e = absurd (omega (arith, e))
 passed RomLength e = absurd (omega (arith, e))
 passed SheetLength e = absurd (omega (arith, e))
-
-back : Checked → Answer
-back c = cond (eqb (c .number) 0) pass (cond (eqb (c .number) 254) (fail (c .word) (c .rule)) (refused (c .number)))
-
-there-and-back : (v : Verdict) → back (checkedOf (answerOf v)) ≡ answerOf v
-unfolding back
-there-and-back Pass = refl
-there-and-back (Fail word rule) = refl
-there-and-back RomLength = refl
-there-and-back SheetLength = refl
-
-pub checks : (a b : Verdict) → checkedOf (answerOf a) ≡ checkedOf (answerOf b) → a ≡ b
-checks a b e = told a b (sym (there-and-back a) ∙ ap back e ∙ there-and-back b)
 
 module _ (rom depths : List ℕ) (v : Verdict) (c : Checked) (e : c ≡ checkedOf (answerOf v)) where
   number : c .number ≡ (checkedOf (answerOf v)) .number

@@ -13,7 +13,8 @@ use Rattle.cpu.specs.declared.Machine.{Machine}
 use Rattle.clearance.specs.Calls.{Call, Tally, noCalls, ownInRange, refusalAt, tallyAfter}
 use Rattle.clearance.specs.Calls as calls
 use Rattle.clearance.specs.Safe.{Moment, Allowed, During, Good, Safe}
-use Rattle.pollwezen.specs.Exports.{machineOf, recordOf, inputOf, numberOf, Faithful, Follows}
+use Rattle.numbers.specs.Numbers.{stepNumber}
+use Rattle.pollwezen.specs.Exports.{machineOf, recordOf, inputOf, Faithful, Follows}
 use Rattle.pollwezen.specs.SafeEntries.{EntryCall, step, run, inPlace, refusalIn, refusalBy, leftBy, AllowedEntry, GoodEntries, SafeEntries}
 use Rattle.pollwezen.specs.declared.Numbered.{Numbered}
 use Rattle.pollwezen.specs.declared.Record.{Record}
@@ -25,7 +26,7 @@ inPlaces [] = []
 inPlaces (c ∷ cs) = inPlace c ∷ inPlaces cs
 
 -- a step's number tells its refusal, where that is none or 1
-number-in : (r : Reply) → (refusalOf r ≡ 0) ⊎ (refusalOf r ≡ 1) → refusalIn (numberOf r) ≡ refusalOf r
+number-in : (r : Reply) → (refusalOf r ≡ 0) ⊎ (refusalOf r ≡ 1) → refusalIn (stepNumber r) ≡ refusalOf r
 number-in done h = refl
 number-in inStandby h = refl
 number-in (refused n) h = ⊎-elim (λ (q : n ≡ 0). rw q refl) (λ (q : n ≡ 1). rw q refl) h

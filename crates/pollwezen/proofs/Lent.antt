@@ -8,23 +8,17 @@ use native.Mathlib.Omega.{arith}
 use lib.Dec.{eqb, leb}
 use Rattle.memory.specs.Chip.{upd17132}
 use borrow.Author.Tests.{leb-true}
-use Rattle.cpu.proofs.Answers.{faithful as told}
 use Rattle.cpu.proofs.Inside.{both}
 use Rattle.cpu.specs.Answers.{Reply, done, inStandby, refused, replyOf, endOf, Step, Run, stepOfStepped, runOfRan}
-use Rattle.cpu.specs.Answers as answers
 use Rattle.cpu.specs.Run.{runOf}
 use Rattle.cpu.specs.Step.{stepOf}
-use Rattle.cpu.specs.declared.Answer.{Answer}
-use Rattle.cpu.specs.declared.Answer.the-variants.{Done, Standby, Refused}
 use Rattle.cpu.specs.declared.Input.{Input}
 use Rattle.cpu.specs.declared.Machine.{Machine}
 use Rattle.cpu.specs.declared.Ran.{Ran}
-use Rattle.cpu.specs.declared.Refusal.{Refusal}
-use Rattle.cpu.specs.declared.Refusal.the-variants.{OutOfRange, PastRom, NoInstruction, NotInBase, BadTarget, StackFull, StackEmpty, PastTable}
 use Rattle.cpu.specs.declared.Stepped.{Stepped}
 use Rattle.host.proofs.Refused.{step-keeps}
-use Rattle.pollwezen.proofs.Checks.{checks}
-use Rattle.pollwezen.specs.Exports.{inputOf, machineOf, marksInRange, numberOf, recordOf, numbered, reported, ofStep, ofRun, stepRecordOf, runRecordOf, Faithful, Follows}
+use Rattle.numbers.specs.Numbers.{stepNumber}
+use Rattle.pollwezen.specs.Exports.{inputOf, machineOf, marksInRange, recordOf, numbered, reported, ofStep, ofRun, stepRecordOf, runRecordOf, Faithful, Follows}
 use Rattle.pollwezen.specs.declared.Inputs.{Inputs}
 use Rattle.pollwezen.specs.declared.Numbered.{Numbered}
 use Rattle.pollwezen.specs.declared.Record.{Record}
@@ -36,7 +30,7 @@ module _ (rom : List ℕ) (i : Inputs) (r : Record) where
   step-refused e = rw e
 
   pub step-answered : marksInRange r ≡ true → (m : Machine) → m ≡ machineOf r → (j : Input) → j ≡ inputOf i
-      → (s : Stepped) → stepOfStepped s ≡ stepOf upd17132 rom j m → (n : ℕ) → n ≡ numberOf (replyOf (s .answer))
+      → (s : Stepped) → stepOfStepped s ≡ stepOf upd17132 rom j m → (n : ℕ) → n ≡ stepNumber (replyOf (s .answer))
       → (after : Record) → after ≡ recordOf (s .machine) → numbered n after ≡ stepRecordOf rom i r
   unfolding stepRecordOf
   step-answered e m p j q s f n g after h =
@@ -86,35 +80,11 @@ machines m =
       control = record { pc = m .control .pc; stack = m .control .stack; levels = m .control .levels; skip = bit (m .control .skip) j; standby = bit (m .control .standby) j };
     }
 
--- no refusal is 0 or 255
-apart : (q : Refusal) → (0 < answers.numberOf q) × (answers.numberOf q < 255)
-apart OutOfRange = (omega arith, omega arith)
-apart PastRom = (omega arith, omega arith)
-apart NoInstruction = (omega arith, omega arith)
-apart NotInBase = (omega arith, omega arith)
-apart BadTarget = (omega arith, omega arith)
-apart StackFull = (omega arith, omega arith)
-apart StackEmpty = (omega arith, omega arith)
-apart PastTable = (omega arith, omega arith)
-
-replies : (a b : Answer) → numberOf (replyOf a) ≡ numberOf (replyOf b) → replyOf a ≡ replyOf b
-replies Done Done e = refl
-replies Done Standby e = absurd (omega (arith, e))
-replies Done (Refused q) e = absurd (omega (arith, e, apart q .0))
-replies Standby Done e = absurd (omega (arith, e))
-replies Standby Standby e = refl
-replies Standby (Refused q) e = absurd (omega (arith, e, apart q .1))
-replies (Refused p) Done e = absurd (omega (arith, e, apart p .0))
-replies (Refused p) Standby e = absurd (omega (arith, e, apart p .1))
-replies (Refused p) (Refused q) e = ap refused e
-
 pub faithful : Faithful
 faithful =
     record {
-      numbers = λ a b e. told .replies a b (replies a b e);
       records = records;
       machines = machines;
-      checks = checks;
     }
 
 in-range : (a b : Bool) → (leb (cond a 1 0) 1 && leb (cond b 1 0) 1) ≡ true
@@ -138,9 +108,9 @@ follows =
 -- a number that is a refusal leaves the record as it came
 settled : (q : Reply) (r : Record) (s : Step) → s .reply ≡ q → recordOf (machineOf r) ≡ r
     → ((n : ℕ) → s .reply ≡ refused n → s .machine ≡ machineOf r)
-    → (numberOf (s .reply) ≡ 0 → ⊥) → (numberOf (s .reply) ≡ 255 → ⊥) → recordOf (s .machine) ≡ r
-settled done r s e back k zero-not last-not = absurd (zero-not (ap numberOf e))
-settled inStandby r s e back k zero-not last-not = absurd (last-not (ap numberOf e))
+    → (stepNumber (s .reply) ≡ 0 → ⊥) → (stepNumber (s .reply) ≡ 255 → ⊥) → recordOf (s .machine) ≡ r
+settled done r s e back k zero-not last-not = absurd (zero-not (ap stepNumber e))
+settled inStandby r s e back k zero-not last-not = absurd (last-not (ap stepNumber e))
 settled (refused n) r s e back k zero-not last-not = ap recordOf (k n e) ∙ back
 
 tested : (b : Bool) (r : Record) (s : Step) → (b ≡ true → recordOf (machineOf r) ≡ r)
@@ -148,7 +118,7 @@ tested : (b : Bool) (r : Record) (s : Step) → (b ≡ true → recordOf (machin
     → (x : Numbered) → x ≡ cond b (ofStep s) (numbered 1 r) → (x .number ≡ 0 → ⊥) → (x .number ≡ 255 → ⊥) → x .left ≡ r
 tested false r s back k x e zero-not last-not = ap (λ (y : Numbered). y .left) e
 tested true r s back k x e zero-not last-not =
-    let n : x .number ≡ numberOf (s .reply) = ap (λ (y : Numbered). y .number) e in
+    let n : x .number ≡ stepNumber (s .reply) = ap (λ (y : Numbered). y .number) e in
     ap (λ (y : Numbered). y .left) e ∙ settled (s .reply) r s refl (back refl) k (λ z. zero-not (n ∙ z)) (λ z. last-not (n ∙ z))
 
 pub kept : (rom : List ℕ) (i : Inputs) (r : Record) (x : Numbered) → x ≡ stepRecordOf rom i r

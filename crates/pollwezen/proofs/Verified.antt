@@ -8,9 +8,9 @@ use Rattle.memory.specs.Chip.{upd17132}
 use Rattle.clearance.specs.Safe.{Safe}
 use Rattle.verifier.specs.Verdict.{pass, answerOf, verifyOf, Clear}
 use Rattle.verifier.specs.declared.Verdict.{Verdict}
-use Rattle.pollwezen.specs.Exports.{checkedOf}
+use Rattle.replies.specs.Replies.{checkedOf}
+use Rattle.replies.specs.declared.Checked.{Checked}
 use Rattle.pollwezen.specs.SafeEntries.{SafeEntries}
-use Rattle.pollwezen.specs.declared.Checked.{Checked}
 use Rattle.pollwezen.proofs.Checks.{verified}
 use Rattle.pollwezen.proofs.EntryLists.{safe-entries}
 

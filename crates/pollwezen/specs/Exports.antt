@@ -6,15 +6,12 @@ use mathlib.Core.List.{List}
 use Prim.Native.Nat.{ℕ}
 use lib.Dec.{eqb, leb}
 use Rattle.memory.specs.Chip.{upd17132}
-use Rattle.cpu.specs.Answers.{Reply, done, inStandby, refused, replyOf, Step, Run}
+use Rattle.cpu.specs.Answers.{Step, Run}
 use Rattle.cpu.specs.InPlace.{stepInPlaceOf, runInPlaceOf}
 use Rattle.cpu.specs.Parts.{resetMachine}
-use Rattle.cpu.specs.declared.Answer.{Answer}
 use Rattle.cpu.specs.declared.Input.{Input}
 use Rattle.cpu.specs.declared.Machine.{Machine}
-use Rattle.verifier.specs.Verdict as check
-use Rattle.verifier.specs.declared.Verdict.{Verdict}
-use Rattle.pollwezen.specs.declared.Checked.{Checked}
+use Rattle.numbers.specs.Numbers.{stepNumber}
 use Rattle.pollwezen.specs.declared.Inputs.{Inputs}
 use Rattle.pollwezen.specs.declared.Numbered.{Numbered}
 use Rattle.pollwezen.specs.declared.Record.{Record}
@@ -45,12 +42,6 @@ recordOf m =
 abbrev pub inputOf : Inputs → Input
 inputOf i = record { pins = i .pins; directions = i .directions; release = i .release }
 
--- a completed step is 0 and one that answers "standing" 255, which no refusal is
-abbrev pub numberOf : Reply → ℕ
-numberOf done = 0
-numberOf inStandby = 255
-numberOf (refused n) = n
-
 abbrev pub resetRecord : Record
 resetRecord = recordOf resetMachine
 
@@ -58,7 +49,7 @@ abbrev pub numbered : ℕ → Record → Numbered
 numbered n left = record { number = n; left = left }
 
 abbrev pub ofStep : Step → Numbered
-ofStep s = numbered (numberOf (s .reply)) (recordOf (s .machine))
+ofStep s = numbered (stepNumber (s .reply)) (recordOf (s .machine))
 
 -- a mark above 1 is refused with 1, and the record is left as it came
 unfoldable pub stepRecordOf : List ℕ → Inputs → Record → Numbered
@@ -74,18 +65,10 @@ ofRun s = reported (s .steps) (s .refusal) (recordOf (s .machine))
 unfoldable pub runRecordOf : List ℕ → Inputs → ℕ → Record → Reported
 runRecordOf rom i budget r = cond (marksInRange r) (ofRun (runInPlaceOf upd17132 rom (inputOf i) budget (machineOf r))) (reported 0 1 r)
 
--- a sheet that passes is 0, and one that fails 254, which no refusal is
-abbrev pub checkedOf : check.Answer → Checked
-checkedOf check.pass = record { number = 0; word = 0; rule = 0 }
-checkedOf (check.fail word rule) = record { number = 254; word = word; rule = rule }
-checkedOf (check.refused n) = record { number = n; word = 0; rule = 0 }
-
--- the numbers and the records of a host lose nothing
+-- the records of a host lose nothing
 pub record Faithful : Type 0 where
-  pub numbers : (a b : Answer) → numberOf (replyOf a) ≡ numberOf (replyOf b) → a ≡ b
   pub records : (r : Record) → marksInRange r ≡ true → recordOf (machineOf r) ≡ r
   pub machines : (m : Machine) → machineOf (recordOf m) ≡ m
-  pub checks : (a b : Verdict) → checkedOf (check.answerOf a) ≡ checkedOf (check.answerOf b) → a ≡ b
 
 -- from the reset record on the exports follow the forms in place
 pub record Follows : Type 0 where

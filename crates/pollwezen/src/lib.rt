@@ -6,12 +6,20 @@ ghost use mathlib.Core.Logic.{_↔_};
 ghost use Rattle.memory.specs.Chip.{upd17132};
 ghost use Rattle.clearance.specs.Safe.{Safe};
 ghost use Rattle.verifier.specs.Verdict.{Clear, verifyOf};
+ghost use Rattle.station_file.specs.Answers.{buffersOf, stationOf};
+ghost use Rattle.station_file.specs.Read.{readOf};
+ghost use Rattle.station_file.specs.Station.{form1};
+ghost use Rattle.station_file.specs.Write.{writeOf};
+ghost use Rattle.transcript.specs.Transcript.{printOf};
+ghost use Rattle.replies.specs.Replies.{checkedOf, countsOf, outputOf, printedOf};
 ghost use Rattle.pollwezen.specs.SafeEntries.{SafeEntries};
-ghost use Rattle.pollwezen.specs.Exports.{checkedOf, numbered, reported, resetRecord, runRecordOf, stepRecordOf};
-use records::checked;
+ghost use Rattle.pollwezen.specs.Exports.{numbered, reported, resetRecord, runRecordOf, stepRecordOf};
 use records::ran;
 use records::record_of;
 use records::stepped;
+use replies::Checked;
+use replies::Counts;
+use replies::Output;
 
 // The machine's record as a host holds it. Its marks are bytes, in range at 0 and 1.
 #[repr(C)]
@@ -49,15 +57,6 @@ pub struct Report {
 pub struct Reported {
     pub report: Report,
     pub left: Record,
-}
-
-// What the check answers: 0 for a sheet that passes, else the refusal, or 254 with the lowest word that breaks a rule and
-// its lowest rule.
-#[repr(C)]
-pub struct Checked {
-    pub number: u8,
-    pub word: u16,
-    pub rule: u8,
 }
 
 // The reset record.
@@ -102,5 +101,44 @@ pub extern "C" fn pollwezen_verify(rom: &[u16], depths: &[u8]) -> Checked
     ensures { λ r. ⌜ (r .number ≡ 0 → Safe upd17132 (now (rom .entry)) (now (depths .entry))) ⌝ }
     ensures { λ r. ⌜ (r .number ≡ 0 → SafeEntries (now (rom .entry)) (now (depths .entry))) ⌝ }
 {
-    checked(verifier::verify(rom, depths))
+    replies::of_verdict(verifier::verify(rom, depths))
+}
+
+// Reads a station file into the lent buffers. A refused file writes nothing.
+#[no_mangle]
+pub extern "C" fn pollwezen_read(
+    file: &[u8],
+    rom: &mut [u16],
+    sheet: &mut [u8],
+    inputs: &mut [u8],
+) -> Counts
+    ensures { λ r. ⌜ r ≡ countsOf ((readOf form1 (now (file .entry)) (buffersOf (now (rom .entry)) (now (sheet .entry)) (now (inputs .entry)))) .reply) ⌝ }
+    ensures { λ r. ⌜ buffersOf (now (rom .exit)) (now (sheet .exit)) (now (inputs .exit))
+        ≡ (readOf form1 (now (file .entry)) (buffersOf (now (rom .entry)) (now (sheet .entry)) (now (inputs .entry)))) .buffers ⌝ }
+{
+    replies::of_loaded(station_file::read(file, rom, sheet, inputs))
+}
+
+// Writes a station's file to the front of the lent buffer. A refused station writes nothing.
+#[no_mangle]
+pub extern "C" fn pollwezen_write(
+    rom: &[u16],
+    sheet: &[u8],
+    inputs: &[u8],
+    out: &mut [u8],
+) -> Output
+    ensures { λ r. ⌜ r ≡ outputOf ((writeOf form1 (stationOf (now (rom .entry)) (now (sheet .entry)) (now (inputs .entry))) (now (out .entry))) .reply) ⌝ }
+    ensures { λ r. ⌜ now (out .exit) ≡ (writeOf form1 (stationOf (now (rom .entry)) (now (sheet .entry)) (now (inputs .entry))) (now (out .entry))) .out ⌝ }
+{
+    replies::of_written(station_file::write(rom, sheet, inputs, out))
+}
+
+// Puts what `station` prints for a file to the front of the lent buffer. One that is too short stays as it is; one of
+// 100,000 bytes never is.
+#[no_mangle]
+pub extern "C" fn pollwezen_transcript(file: &[u8], out: &mut [u8]) -> Output
+    ensures { λ r. ⌜ r ≡ printedOf ((printOf (now (file .entry)) (now (out .entry))) .answer) ⌝ }
+    ensures { λ r. ⌜ now (out .exit) ≡ (printOf (now (file .entry)) (now (out .entry))) .out ⌝ }
+{
+    replies::of_printed(transcript::transcript(file, out))
 }

@@ -1,23 +1,16 @@
-// From a host's record to the machine's and back, answers as numbers, and the step and the run by value over them.
+// From a host's record to the machine's and back, and the step and the run by value over them.
 ghost use mathlib.Core.Path.{_≡_};
 ghost use mathlib.Core.Bool.{cond};
-ghost use Rattle.cpu.specs.Answers.{endOf, replyOf};
-ghost use Rattle.verifier.specs.Verdict.{answerOf};
-ghost use Rattle.pollwezen.specs.Exports.{checkedOf, inputOf, machineOf, marksInRange, numberOf, recordOf, runRecordOf, stepRecordOf};
-use crate::Checked;
+ghost use Rattle.pollwezen.specs.Exports.{inputOf, machineOf, marksInRange, recordOf, runRecordOf, stepRecordOf};
 use crate::Inputs;
 use crate::Numbered;
 use crate::Record;
 use crate::Report;
 use crate::Reported;
-use cpu::Answer;
 use cpu::Control;
-use cpu::End;
 use cpu::Input;
 use cpu::Machine;
-use cpu::Refusal;
 use memory::Memory;
-use verifier::Verdict;
 
 fn marks_in_range(lent: Record) -> bool
     ensures { λ r. ⌜ r ≡ marksInRange lent ⌝ }
@@ -80,40 +73,6 @@ fn input_of(input: Inputs) -> Input
     }
 }
 
-fn refusal_number(refusal: Refusal) -> u8
-    ensures { λ r. ⌜ r ≡ Rattle.cpu.specs.Answers.numberOf refusal ⌝ }
-{
-    match refusal {
-        Refusal::OutOfRange => 1,
-        Refusal::PastRom => 2,
-        Refusal::NoInstruction => 3,
-        Refusal::NotInBase => 4,
-        Refusal::BadTarget => 5,
-        Refusal::StackFull => 6,
-        Refusal::StackEmpty => 7,
-        Refusal::PastTable => 8,
-    }
-}
-
-fn number(answer: Answer) -> u8
-    ensures { λ r. ⌜ r ≡ numberOf (replyOf answer) ⌝ }
-{
-    match answer {
-        Answer::Done => 0,
-        Answer::Standby => 255,
-        Answer::Refused(refusal) => refusal_number(refusal),
-    }
-}
-
-fn end_number(end: End) -> u8
-    ensures { λ r. ⌜ r ≡ endOf end ⌝ }
-{
-    match end {
-        End::Completed => 0,
-        End::Refused(refusal) => refusal_number(refusal),
-    }
-}
-
 // The step by value.
 pub fn stepped(rom: &[u16], lent: Record, input: Inputs) -> Numbered
     ensures { λ r. ⌜ r ≡ stepRecordOf (now (rom .entry)) input lent ⌝ }
@@ -129,7 +88,7 @@ pub fn stepped(rom: &[u16], lent: Record, input: Inputs) -> Numbered
     let answer = s.answer;
     let after = s.machine;
     Numbered {
-        number: number(answer),
+        number: numbers::of_answer(answer),
         left: record_of(after),
     }
 }
@@ -155,35 +114,8 @@ pub fn ran(rom: &[u16], lent: Record, input: Inputs, budget: u32) -> Reported
     Reported {
         report: Report {
             steps: report.steps,
-            number: end_number(end),
+            number: numbers::of_end(end),
         },
         left: record_of(ended),
-    }
-}
-
-pub fn checked(verdict: Verdict) -> Checked
-    ensures { λ r. ⌜ r ≡ checkedOf (answerOf verdict) ⌝ }
-{
-    match verdict {
-        Verdict::Pass => Checked {
-            number: 0,
-            word: 0,
-            rule: 0,
-        },
-        Verdict::Fail { word, rule } => Checked {
-            number: 254,
-            word: word,
-            rule: rule,
-        },
-        Verdict::RomLength => Checked {
-            number: 1,
-            word: 0,
-            rule: 0,
-        },
-        Verdict::SheetLength => Checked {
-            number: 9,
-            word: 0,
-            rule: 0,
-        },
     }
 }

@@ -15,14 +15,7 @@ use station_file::Loaded;
 fn fault_number(fault: Fault) -> u16
     ensures { λ r. ⌜ r ≡ faultNumber fault ⌝ }
 {
-    match fault {
-        Fault::Form => 20,
-        Fault::Early => 21,
-        Fault::Count => 22,
-        Fault::Entry => 23,
-        Fault::After => 24,
-        Fault::Room => 25,
-    }
+    numbers::of_fault(fault) as u16
 }
 
 // The text of the station at the front of three buffers.

@@ -15,16 +15,7 @@ use cpu::Refusal;
 fn refusal_number(refusal: Refusal) -> u16
     ensures { λ r. ⌜ r ≡ numberOf refusal ⌝ }
 {
-    match refusal {
-        Refusal::OutOfRange => 1,
-        Refusal::PastRom => 2,
-        Refusal::NoInstruction => 3,
-        Refusal::NotInBase => 4,
-        Refusal::BadTarget => 5,
-        Refusal::StackFull => 6,
-        Refusal::StackEmpty => 7,
-        Refusal::PastTable => 8,
-    }
+    numbers::of_refusal(refusal) as u16
 }
 
 fn word_at(rom: &[u16], pc: u16) -> u16

@@ -5,19 +5,18 @@ use Rattle.pollwezen.proofs.pollwezen_verify.Statement.{statement}
 use Rattle.pollwezen.proofs.pollwezen_verify.Tie as tie
 use Rattle.pollwezen.proofs.pollwezen_verify.Reads as reads
 use Rattle.pollwezen.proofs.pollwezen_verify.Lts as lts
-use Rattle.pollwezen.proofs.records.checked.Reads as checked-reads
 use Rattle.verifier.proofs.verify.Reads as verify-reads
 
 verify-requires : tie.Need-verify-requires
 verify-requires c κs = search needs
 
-checked-requires : tie.Need-checked-requires
-checked-requires c κs = search needs
+of-verdict-requires : tie.Need-of-verdict-requires
+of-verdict-requires c κs = search needs
 
 returns : tie.Need-returns
 returns c =
     let args = c .before .before .before .before .args in
-    promised (now (args .rom)) (now (args .depths)) (c .before .verify .result) (c .checked .result) (c .checked .ensures) (c .before .verify .ensures)
+    promised (now (args .rom)) (now (args .depths)) (c .before .verify .result) (c .of-verdict .result) (c .of-verdict .ensures) (c .before .verify .ensures)
 
 pub pollwezen-verify-spec : {M : Type 1} → statement M
-pollwezen-verify-spec = tie.close (tie.spec verify-requires checked-requires returns)
+pollwezen-verify-spec = tie.close (tie.spec verify-requires of-verdict-requires returns)

@@ -8,7 +8,6 @@ use Rattle.pollwezen.proofs.records.ran.Tie as tie
 use Rattle.pollwezen.proofs.records.ran.Reads as reads
 use Rattle.pollwezen.proofs.records.ran.Lts as lts
 use Rattle.cpu.proofs.run.Reads as run-reads
-use Rattle.pollwezen.proofs.records.end_number.Reads as end-number-reads
 use Rattle.pollwezen.proofs.records.input_of.Reads as input-of-reads
 use Rattle.pollwezen.proofs.records.machine_of.Reads as machine-of-reads
 use Rattle.pollwezen.proofs.records.marks_in_range.Reads as marks-in-range-reads
@@ -31,8 +30,8 @@ input-of-requires c κs = search needs
 run-requires : tie.Need-run-requires
 run-requires c κs = search needs
 
-end-number-requires : tie.Need-end-number-requires
-end-number-requires c κs = search needs
+of-end-requires : tie.Need-of-end-requires
+of-end-requires c κs = search needs
 
 record-of-requires : tie.Need-record-of-requires
 record-of-requires c κs = search needs
@@ -45,7 +44,7 @@ returns-2 c =
     let args = tested .before .before .args in
     run-answered (now (args .rom)) (args .input) (args .lent) (args .budget) (sym (tested .marks-in-range .ensures) ∙ not-false _ (made .before .if1 .left))
     (made .machine-of .result) (made .machine-of .ensures) (done .before .input-of .result) (done .before .input-of .ensures)
-    (done .run .result) (done .run .ensures) (c .before .end-number .result) (c .before .end-number .ensures)
+    (done .run .result) (done .run .ensures) (c .before .of-end .result) (c .before .of-end .ensures)
     (c .record-of .result) (c .record-of .ensures)
 
 pub ran-spec : {M : Type 1} → statement M
@@ -57,6 +56,6 @@ ran-spec =
     machine-of-requires
     input-of-requires
     run-requires
-    end-number-requires
+    of-end-requires
     record-of-requires
     returns-2)

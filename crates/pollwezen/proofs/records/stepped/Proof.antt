@@ -11,7 +11,6 @@ use Rattle.cpu.proofs.step.Reads as step-reads
 use Rattle.pollwezen.proofs.records.input_of.Reads as input-of-reads
 use Rattle.pollwezen.proofs.records.machine_of.Reads as machine-of-reads
 use Rattle.pollwezen.proofs.records.marks_in_range.Reads as marks-in-range-reads
-use Rattle.pollwezen.proofs.records.number.Reads as number-reads
 use Rattle.pollwezen.proofs.records.record_of.Reads as record-of-reads
 
 marks-in-range-requires : tie.Need-marks-in-range-requires
@@ -29,8 +28,8 @@ input-of-requires c κs = search needs
 step-requires : tie.Need-step-requires
 step-requires c κs = search needs
 
-number-requires : tie.Need-number-requires
-number-requires c κs = search needs
+of-answer-requires : tie.Need-of-answer-requires
+of-answer-requires c κs = search needs
 
 record-of-requires : tie.Need-record-of-requires
 record-of-requires c κs = search needs
@@ -43,7 +42,7 @@ returns-2 c =
     let args = tested .before .before .args in
     step-answered (now (args .rom)) (args .input) (args .lent) (sym (tested .marks-in-range .ensures) ∙ not-false _ (made .before .if1 .left))
     (made .machine-of .result) (made .machine-of .ensures) (stepped .before .input-of .result) (stepped .before .input-of .ensures)
-    (stepped .step .result) (stepped .step .ensures) (c .before .number .result) (c .before .number .ensures)
+    (stepped .step .result) (stepped .step .ensures) (c .before .of-answer .result) (c .before .of-answer .ensures)
     (c .record-of .result) (c .record-of .ensures)
 
 pub stepped-spec : {M : Type 1} → statement M
@@ -55,6 +54,6 @@ stepped-spec =
     machine-of-requires
     input-of-requires
     step-requires
-    number-requires
+    of-answer-requires
     record-of-requires
     returns-2)

@@ -3,61 +3,14 @@
 
 #![allow(unsafe_code)]
 
-use std::mem::{offset_of, size_of};
+mod layout;
+mod structs;
 
 use reference::{Input, Machine};
+use structs::{Inputs, Record};
 
-/// `pollwezen_record`.
-#[repr(C)]
-#[derive(Clone, Copy)]
-struct Record {
-    cells: [u8; 128],
-    pc: u16,
-    stack: [u16; 5],
-    levels: u8,
-    skip: u8,
-    standby: u8,
-}
-
-/// `pollwezen_input`.
-#[repr(C)]
-#[derive(Clone, Copy)]
-struct Inputs {
-    pins: [u8; 5],
-    directions: [u8; 5],
-    release: u8,
-}
-
-/// `pollwezen_report`: the steps that a run completed, its refusal or 0.
-#[repr(C)]
-#[derive(Clone, Copy, Debug, PartialEq, Eq)]
-pub struct Report {
-    pub steps: u32,
-    pub number: u8,
-}
-
-/// `pollwezen_checked`: 0, a refusal, or 254 with the word and the rule.
-#[repr(C)]
-#[derive(Clone, Copy, Debug, PartialEq, Eq)]
-pub struct Checked {
-    pub number: u8,
-    pub word: u16,
-    pub rule: u8,
-}
-
-// The layout that tests/header.c holds the header to.
-const _: () = {
-    assert!(size_of::<Record>() == 144 && offset_of!(Record, cells) == 0);
-    assert!(offset_of!(Record, pc) == 128 && offset_of!(Record, stack) == 130);
-    assert!(offset_of!(Record, levels) == 140 && offset_of!(Record, skip) == 141);
-    assert!(offset_of!(Record, standby) == 142);
-    assert!(size_of::<Inputs>() == 11 && offset_of!(Inputs, pins) == 0);
-    assert!(offset_of!(Inputs, directions) == 5 && offset_of!(Inputs, release) == 10);
-    assert!(size_of::<Report>() == 8 && offset_of!(Report, steps) == 0);
-    assert!(offset_of!(Report, number) == 4);
-    assert!(size_of::<Checked>() == 6 && offset_of!(Checked, number) == 0);
-    assert!(offset_of!(Checked, word) == 2 && offset_of!(Checked, rule) == 4);
-};
+pub use layout::layout;
+pub use structs::{Checked, Counts, Output, Report};
 
 extern "C" {
     fn pollwezen_reset() -> Record;
@@ -75,6 +28,27 @@ extern "C" {
         depths: *const u8,
         entries: usize,
     ) -> Checked;
+    fn pollwezen_read(
+        file: *const u8,
+        bytes: usize,
+        rom: *mut u16,
+        rom_room: usize,
+        sheet: *mut u8,
+        sheet_room: usize,
+        inputs: *mut u8,
+        inputs_room: usize,
+    ) -> Counts;
+    fn pollwezen_write(
+        rom: *const u16,
+        words: usize,
+        sheet: *const u8,
+        entries: usize,
+        inputs: *const u8,
+        input_bytes: usize,
+        out: *mut u8,
+        room: usize,
+    ) -> Output;
+    fn pollwezen_transcript(file: *const u8, bytes: usize, out: *mut u8, room: usize) -> Output;
 }
 
 /// The proved reset.
@@ -106,6 +80,46 @@ pub fn run(rom: &[u16], lent: &mut Machine, input: &Input, budget: u32) -> Repor
 pub fn verify(rom: &[u16], depths: &[u8]) -> Checked {
     // SAFETY: both slices give their own length.
     unsafe { pollwezen_verify(rom.as_ptr(), rom.len(), depths.as_ptr(), depths.len()) }
+}
+
+/// The proved reader.
+pub fn read(file: &[u8], rom: &mut [u16], sheet: &mut [u8], inputs: &mut [u8]) -> Counts {
+    // SAFETY: each slice gives its own length, and no two overlap.
+    unsafe {
+        pollwezen_read(
+            file.as_ptr(),
+            file.len(),
+            rom.as_mut_ptr(),
+            rom.len(),
+            sheet.as_mut_ptr(),
+            sheet.len(),
+            inputs.as_mut_ptr(),
+            inputs.len(),
+        )
+    }
+}
+
+/// The proved writer.
+pub fn write(rom: &[u16], sheet: &[u8], inputs: &[u8], out: &mut [u8]) -> Output {
+    // SAFETY: as in `read`.
+    unsafe {
+        pollwezen_write(
+            rom.as_ptr(),
+            rom.len(),
+            sheet.as_ptr(),
+            sheet.len(),
+            inputs.as_ptr(),
+            inputs.len(),
+            out.as_mut_ptr(),
+            out.len(),
+        )
+    }
+}
+
+/// The proved transcript.
+pub fn transcript(file: &[u8], out: &mut [u8]) -> Output {
+    // SAFETY: as in `read`.
+    unsafe { pollwezen_transcript(file.as_ptr(), file.len(), out.as_mut_ptr(), out.len()) }
 }
 
 fn record(from: &Machine) -> Record {

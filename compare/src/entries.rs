@@ -1,0 +1,150 @@
+//! Station files, good and damaged, through the entries for C: the reader, the
+//! writer and the transcript of both emulators on the same lent buffers, which
+//! are compared whole.
+
+use reference::station::{read_into, write, write_into};
+use reference::{Input, Station};
+
+use crate::host::{self, Counts, Output};
+use crate::pair::Finding;
+use crate::random::Random;
+use crate::stations::{damage, spoil, station};
+use crate::tally::Tally;
+
+/// What stands in a lent buffer before a call.
+const OLD: u8 = 0x5A;
+const OLD_WORD: u16 = 0x5A5A;
+/// Bytes of an input record.
+const RECORD: usize = 11;
+
+/// One station, written, damaged, read and printed.
+pub fn entry(random: &mut Random, _: u64, tally: &mut Tally) -> Result<(), Finding> {
+    let good = station(random);
+    let mut file = match write(&good) {
+        Ok(file) => file,
+        Err(refusal) => return Err(Finding(format!("a good station is refused with {refusal}\n"))),
+    };
+    if random.once_in(2) {
+        damage(random, &good, &mut file);
+    }
+    reads(random, &file, tally)?;
+    prints(random, &file, tally)?;
+    let mut given = good;
+    let part = random.once_in(2) && spoil(random, &mut given);
+    writes(random, &given, part, tally)
+}
+
+/// Room for so much, one less or more.
+fn room(random: &mut Random, needed: usize) -> usize {
+    match random.below(6) {
+        0 => needed.saturating_sub(1),
+        1 => random.below(needed as u64 + 1) as usize,
+        2 => needed + 1 + random.below(20) as usize,
+        _ => needed,
+    }
+}
+
+fn reads(random: &mut Random, file: &[u8], tally: &mut Tally) -> Result<(), Finding> {
+    let (words, entries, records) = match reference::station::read(file) {
+        Ok(station) => (station.rom.len(), station.depths.len(), station.inputs.len()),
+        Err(_) => (1024, 1024, 4095),
+    };
+    let rooms = [room(random, words), room(random, entries), room(random, RECORD * records)];
+    let mut rom = vec![OLD_WORD; rooms[0]];
+    let (mut sheet, mut inputs) = (vec![OLD; rooms[1]], vec![OLD; rooms[2]]);
+    let counts = host::read(file, &mut rom, &mut sheet, &mut inputs);
+
+    let mut rom2 = vec![OLD_WORD; rooms[0]];
+    let mut sheet2 = vec![OLD; rooms[1]];
+    let old = Input { pins: [OLD; 5], directions: [OLD; 5], release: OLD };
+    let mut records2 = vec![old; rooms[2] / RECORD];
+    let answer = match read_into(file, &mut rom2, &mut sheet2, &mut records2) {
+        Ok(c) => Counts { number: 0, words: c.words, entries: c.depths, records: c.inputs },
+        Err(number) => Counts { number, words: 0, entries: 0, records: 0 },
+    };
+    let mut inputs2 = flat(&records2);
+    inputs2.resize(rooms[2], OLD);
+    if counts == answer && rom == rom2 && sheet == sheet2 && inputs == inputs2 {
+        tally.answer(counts.number);
+        return Ok(());
+    }
+    Err(Finding(format!(
+        "read into {rooms:?}, file of {} bytes: {file:02X?}\n\
+         first difference: proved {counts:?}, second {answer:?}, buffers alike: {} {} {}\n",
+        file.len(),
+        rom == rom2,
+        sheet == sheet2,
+        inputs == inputs2
+    )))
+}
+
+/// `part` adds a byte to the flat list, which then is no whole number of records.
+fn writes(
+    random: &mut Random,
+    station: &Station,
+    part: bool,
+    tally: &mut Tally,
+) -> Result<(), Finding> {
+    let mut inputs = flat(&station.inputs);
+    if part {
+        inputs.push(0);
+    }
+    let needed = 8 + 2 * station.rom.len() + station.depths.len() + inputs.len();
+    let mut out = vec![OLD; room(random, needed)];
+    let mut out2 = out.clone();
+    let output = host::write(&station.rom, &station.depths, &inputs, &mut out);
+    let written = if part { part_refused(station) } else { write_into(station, &mut out2) };
+    let answer = match written {
+        Ok(length) => Output { number: 0, length },
+        Err(number) => Output { number, length: 0 },
+    };
+    if output == answer && out == out2 {
+        tally.answer(output.number);
+        tally.see(if output.number == 0 { "stations written" } else { "stations refused" });
+        return Ok(());
+    }
+    Err(Finding(format!(
+        "write into {} bytes: {station:?}\n\
+         first difference: proved {output:?}, second {answer:?}, buffers alike: {}\n",
+        out.len(),
+        out == out2
+    )))
+}
+
+/// The second emulator has input records only. A part of one is 22 after what
+/// comes before it in the file.
+fn part_refused(station: &Station) -> Result<usize, u8> {
+    let before = Station { inputs: vec![], ..station.clone() };
+    write(&before).and(Err(22))
+}
+
+fn prints(random: &mut Random, file: &[u8], tally: &mut Tally) -> Result<(), Finding> {
+    let text = reference::transcript(file);
+    let mut out = vec![OLD; room(random, text.len())];
+    let mut expected = out.clone();
+    let answer = match expected.get_mut(..text.len()) {
+        Some(front) => {
+            front.copy_from_slice(text.as_bytes());
+            Output { number: 0, length: text.len() }
+        }
+        None => Output { number: 25, length: 0 },
+    };
+    let output = host::transcript(file, &mut out);
+    if output == answer && out == expected {
+        tally.compared += 1;
+        tally.see(if output.number == 0 { "texts" } else { "texts without room" });
+        return Ok(());
+    }
+    Err(Finding(format!(
+        "transcript into {} bytes, file of {} bytes: {file:02X?}\nproved:\n{}\nsecond:\n{text}\
+         first difference: proved {output:?}, second {answer:?}\n",
+        out.len(),
+        file.len(),
+        String::from_utf8_lossy(&out)
+    )))
+}
+
+fn flat(inputs: &[Input]) -> Vec<u8> {
+    let bytes = |i: &Input| i.pins.into_iter().chain(i.directions).chain([i.release]);
+    inputs.iter().flat_map(bytes).collect()
+}
