@@ -73,6 +73,32 @@ typedef struct {
     size_t length;
 } pollwezen_output;
 
+/* What a word is: its row in the list of the instruction set (POLLWEZEN_ROWS below) and its operands in the list's order, a
+ * program address in `addr` and any other in `first` and `second`; those that the row lacks are 0. Or refusal 3 and zeros. */
+typedef struct {
+    uint8_t number;
+    uint8_t row;
+    uint8_t first;
+    uint8_t second;
+    uint16_t addr;
+} pollwezen_listed;
+
+/* The word of a row with its operands, or a refusal with word 0. */
+typedef struct {
+    uint8_t number;
+    uint16_t word;
+} pollwezen_coded;
+
+/* The rows, from 0 on, in the order of the maker's list (source 000, 18.3). */
+#define POLLWEZEN_ROWS \
+    { \
+        "ADD r,m", "ADD m,#n4", "ADDC r,m", "ADDC m,#n4", "INC AR", "INC IX", "SUB r,m", "SUB m,#n4", "SUBC r,m", \
+        "SUBC m,#n4", "OR r,m", "OR m,#n4", "AND r,m", "AND m,#n4", "XOR r,m", "XOR m,#n4", "SKT m,#n", "SKF m,#n", \
+        "SKE m,#n4", "SKNE m,#n4", "SKGE m,#n4", "SKLT m,#n4", "RORC r", "LD r,m", "ST m,r", "MOV @r,m", "MOV m,@r", \
+        "MOV m,#n4", "MOVT DBF,@AR", "PUSH AR", "POP AR", "PEEK WR,rf", "POKE rf,WR", "GET DBF,p", "PUT p,DBF", \
+        "BR addr", "BR @AR", "CALL addr", "CALL @AR", "RET", "RETSK", "RETI", "EI", "DI", "STOP s", "HALT h", "NOP" \
+    }
+
 pollwezen_record pollwezen_reset(void);
 
 /* One step on the lent record. A refusal leaves it as it came. */
@@ -84,6 +110,13 @@ pollwezen_report pollwezen_run(const uint16_t *rom, size_t words, pollwezen_reco
 
 /* The check of a ROM and its sheet, one level a word. */
 pollwezen_checked pollwezen_verify(const uint16_t *rom, size_t words, const uint8_t *depths, size_t entries);
+
+/* The instruction that a word is. */
+pollwezen_listed pollwezen_decode(uint16_t word);
+
+/* The word of an instruction. Refusals: 1 for a row past the list, 10 for an operand that is too large for its field or that the
+ * row does not have. */
+pollwezen_coded pollwezen_encode(uint8_t row, uint8_t first, uint8_t second, uint16_t addr);
 
 /* Reads a station file to the front of three lent buffers; a sheet of no entries is none. An input record is eleven bytes: five
  * pins, five directions, release. Refusals: 20 to 25, the last where a buffer is too short. A refused file writes nothing. */

@@ -1,5 +1,5 @@
 /* Tests include/pollwezen.h against the library: the layout of its structs (layout.c), and each entry with good and bad input,
- * those for files in files.c. It prints each line that fails and ends with how many did; the exit status is 0 where none did. */
+ * those for words in codes.c and for files in files.c. It prints each line that fails and ends with how many did; the exit status is 0 where none did. */
 #include "header.h"
 
 #include <stdio.h>
@@ -124,6 +124,7 @@ int main(void) {
     runs();
     ports();
     verdicts();
+    codes();
     files();
     printf("header: %d failed\n", failed);
     return failed != 0;

@@ -7,6 +7,7 @@
 void expect(int holds, const char *what);
 
 void layout(void);
+void codes(void);
 void files(void);
 
 #endif

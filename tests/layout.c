@@ -12,6 +12,8 @@ typedef struct {
     pollwezen_checked checks[2];
     pollwezen_counts counts[2];
     pollwezen_output outputs[2];
+    pollwezen_listed listings[2];
+    pollwezen_coded codes[2];
 } laid;
 
 void layout_fill(laid *lent);
@@ -70,6 +72,13 @@ static void fields(unsigned i) {
     FIELD(counts, pollwezen_counts, records, 4);
     FIELD(outputs, pollwezen_output, number, 1);
     FIELD(outputs, pollwezen_output, length, 2);
+    FIELD(listings, pollwezen_listed, number, 1);
+    FIELD(listings, pollwezen_listed, row, 2);
+    FIELD(listings, pollwezen_listed, first, 3);
+    FIELD(listings, pollwezen_listed, second, 4);
+    FIELD(listings, pollwezen_listed, addr, 5);
+    FIELD(codes, pollwezen_coded, number, 1);
+    FIELD(codes, pollwezen_coded, word, 2);
 }
 
 void layout(void) {

@@ -11,6 +11,7 @@
 
 #![deny(unsafe_code)]
 
+mod codes;
 mod entries;
 mod faults;
 mod files;

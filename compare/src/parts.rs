@@ -3,7 +3,7 @@
 use crate::pair::Finding;
 use crate::random::Random;
 use crate::tally::Tally;
-use crate::{entries, faults, files, lists, steps, verdicts};
+use crate::{codes, entries, faults, files, lists, steps, verdicts};
 
 pub struct Part {
     pub name: &'static str,
@@ -33,6 +33,14 @@ impl Part {
 }
 
 pub const PARTS: &[Part] = &[
+    Part {
+        name: "codes",
+        cases: 65_536,
+        few: 65_536,
+        numbers: &[0, 1, 3, 10],
+        things: &[],
+        case: codes::code,
+    },
     Part {
         name: "words",
         cases: 65_536,

@@ -4,7 +4,7 @@
 
 use std::mem::{offset_of, size_of};
 
-use crate::structs::{Checked, Counts, Inputs, Output, Record, Report};
+use crate::structs::{Checked, Coded, Counts, Inputs, Listed, Output, Record, Report};
 
 /// Two of each struct, as in crates/layout/src/lib.rt.
 #[repr(C)]
@@ -15,6 +15,8 @@ struct Laid {
     checks: [Checked; 2],
     counts: [Counts; 2],
     outputs: [Output; 2],
+    listings: [Listed; 2],
+    codes: [Coded; 2],
 }
 
 extern "C" {
@@ -99,5 +101,7 @@ pub fn layout() -> Result<(), String> {
     look!(search, checks: Checked, number 1, word 2, rule 3);
     look!(search, counts: Counts, number 1, words 2, entries 3, records 4);
     look!(search, outputs: Output, number 1, length 2);
+    look!(search, listings: Listed, number 1, row 2, first 3, second 4, addr 5);
+    look!(search, codes: Coded, number 1, word 2);
     search.missing.map_or(Ok(()), Err)
 }

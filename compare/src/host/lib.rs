@@ -10,7 +10,7 @@ use reference::{Input, Machine};
 use structs::{Inputs, Record};
 
 pub use layout::layout;
-pub use structs::{Checked, Counts, Output, Report};
+pub use structs::{Checked, Coded, Counts, Listed, Output, Report};
 
 extern "C" {
     fn pollwezen_reset() -> Record;
@@ -28,6 +28,8 @@ extern "C" {
         depths: *const u8,
         entries: usize,
     ) -> Checked;
+    fn pollwezen_decode(word: u16) -> Listed;
+    fn pollwezen_encode(row: u8, first: u8, second: u8, addr: u16) -> Coded;
     fn pollwezen_read(
         file: *const u8,
         bytes: usize,
@@ -80,6 +82,18 @@ pub fn run(rom: &[u16], lent: &mut Machine, input: &Input, budget: u32) -> Repor
 pub fn verify(rom: &[u16], depths: &[u8]) -> Checked {
     // SAFETY: both slices give their own length.
     unsafe { pollwezen_verify(rom.as_ptr(), rom.len(), depths.as_ptr(), depths.len()) }
+}
+
+/// The proved decoder.
+pub fn decode(word: u16) -> Listed {
+    // SAFETY: no pointer.
+    unsafe { pollwezen_decode(word) }
+}
+
+/// The proved encoder.
+pub fn encode(row: u8, first: u8, second: u8, addr: u16) -> Coded {
+    // SAFETY: no pointer.
+    unsafe { pollwezen_encode(row, first, second, addr) }
 }
 
 /// The proved reader.

@@ -55,3 +55,23 @@ pub struct Output {
     pub number: u8,
     pub length: usize,
 }
+
+/// `pollwezen_listed`: 0 with a row of the manual's list and its operands, or
+/// refusal 3.
+#[repr(C)]
+#[derive(Clone, Copy, Debug, PartialEq, Eq)]
+pub struct Listed {
+    pub number: u8,
+    pub row: u8,
+    pub first: u8,
+    pub second: u8,
+    pub addr: u16,
+}
+
+/// `pollwezen_coded`: 0 with a word, or a refusal.
+#[repr(C)]
+#[derive(Clone, Copy, Debug, PartialEq, Eq)]
+pub struct Coded {
+    pub number: u8,
+    pub word: u16,
+}

@@ -10,6 +10,8 @@ use Rattle.pollwezen.specs.declared.Report.{Report}
 use Rattle.replies.specs.declared.Checked.{Checked}
 use Rattle.replies.specs.declared.Counts.{Counts}
 use Rattle.replies.specs.declared.Output.{Output}
+use Rattle.rows.specs.declared.Coded.{Coded}
+use Rattle.rows.specs.declared.Listed.{Listed}
 use Rattle.layout.specs.declared.Laid.{Laid}
 
 -- the first cell and the last differ from the others
@@ -44,6 +46,12 @@ countOf byte size = record { number = byte - 1; words = size - 2; entries = size
 abbrev pub outputOf : ℕ → ℕ → Output
 outputOf byte size = record { number = byte - 1; length = size - 2 }
 
+abbrev pub listingOf : ℕ → ℕ → Listed
+listingOf byte word = record { number = byte - 1; row = byte - 2; first = byte - 3; second = byte - 4; addr = word - 5 }
+
+abbrev pub codeOf : ℕ → ℕ → Coded
+codeOf byte word = record { number = byte - 1; word = word - 2 }
+
 unfoldable pub laidOf : Laid
 laidOf =
     record {
@@ -53,4 +61,6 @@ laidOf =
       checks = checkOf 255 65535 ∷ checkOf 127 32767 ∷ [];
       counts = countOf 255 18446744073709551615 ∷ countOf 127 9223372036854775807 ∷ [];
       outputs = outputOf 255 18446744073709551615 ∷ outputOf 127 9223372036854775807 ∷ [];
+      listings = listingOf 255 65535 ∷ listingOf 127 32767 ∷ [];
+      codes = codeOf 255 65535 ∷ codeOf 127 32767 ∷ [];
     }

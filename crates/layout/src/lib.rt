@@ -2,13 +2,15 @@
 // tests/header.c and compare/ to find.
 ghost use mathlib.Core.Path.{_≡_};
 ghost use Prim.Native.Nat.{_≤_};
-ghost use Rattle.layout.specs.Laid.{checkOf, countOf, inputOf, laidOf, outputOf, recordOf, reportOf};
+ghost use Rattle.layout.specs.Laid.{checkOf, codeOf, countOf, inputOf, laidOf, listingOf, outputOf, recordOf, reportOf};
 use pollwezen::Inputs;
 use pollwezen::Record;
 use pollwezen::Report;
 use replies::Checked;
 use replies::Counts;
 use replies::Output;
+use rows::Coded;
+use rows::Listed;
 
 // Two of each struct, so that the second lies where the first ends.
 #[repr(C)]
@@ -19,6 +21,8 @@ pub struct Laid {
     pub checks: [Checked; 2],
     pub counts: [Counts; 2],
     pub outputs: [Output; 2],
+    pub listings: [Listed; 2],
+    pub codes: [Coded; 2],
 }
 
 fn record(byte: u8, word: u16) -> Record
@@ -95,6 +99,29 @@ fn length(byte: u8, size: usize) -> Output
     }
 }
 
+fn listing(byte: u8, word: u16) -> Listed
+    requires { ⌜ (4 ≤ byte) × (5 ≤ word) ⌝ }
+    ensures { λ r. ⌜ r ≡ listingOf byte word ⌝ }
+{
+    Listed {
+        number: byte - 1,
+        row: byte - 2,
+        first: byte - 3,
+        second: byte - 4,
+        addr: word - 5,
+    }
+}
+
+fn code(byte: u8, word: u16) -> Coded
+    requires { ⌜ (1 ≤ byte) × (2 ≤ word) ⌝ }
+    ensures { λ r. ⌜ r ≡ codeOf byte word ⌝ }
+{
+    Coded {
+        number: byte - 1,
+        word: word - 2,
+    }
+}
+
 // In the first of each two the fields count down from the largest number of their width, in the second from half of it.
 fn all() -> Laid
     ensures { λ r. ⌜ r ≡ laidOf ⌝ }
@@ -107,6 +134,8 @@ fn all() -> Laid
     let checks = [check(255, 65535), check(127, 32767)];
     let counts = [count(255, size), count(127, half)];
     let outputs = [length(255, size), length(127, half)];
+    let listings = [listing(255, 65535), listing(127, 32767)];
+    let codes = [code(255, 65535), code(127, 32767)];
     Laid {
         records: records,
         inputs: inputs,
@@ -114,6 +143,8 @@ fn all() -> Laid
         checks: checks,
         counts: counts,
         outputs: outputs,
+        listings: listings,
+        codes: codes,
     }
 }
 

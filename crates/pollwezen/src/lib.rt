@@ -3,6 +3,8 @@ mod records;
 
 ghost use mathlib.Core.Path.{_≡_};
 ghost use mathlib.Core.Logic.{_↔_};
+ghost use Rattle.isa.specs.Decode.{decodeOf};
+ghost use Rattle.rows.specs.Listing.{codedOf, listedOf};
 ghost use Rattle.memory.specs.Chip.{upd17132};
 ghost use Rattle.clearance.specs.Safe.{Safe};
 ghost use Rattle.verifier.specs.Verdict.{Clear, verifyOf};
@@ -20,6 +22,8 @@ use records::stepped;
 use replies::Checked;
 use replies::Counts;
 use replies::Output;
+use rows::Coded;
+use rows::Listed;
 
 // The machine's record as a host holds it. Its marks are bytes, in range at 0 and 1.
 #[repr(C)]
@@ -102,6 +106,22 @@ pub extern "C" fn pollwezen_verify(rom: &[u16], depths: &[u8]) -> Checked
     ensures { λ r. ⌜ (r .number ≡ 0 → SafeEntries (now (rom .entry)) (now (depths .entry))) ⌝ }
 {
     replies::of_verdict(verifier::verify(rom, depths))
+}
+
+// A word's row in the manual's list and its operands, or 3.
+#[no_mangle]
+pub extern "C" fn pollwezen_decode(word: u16) -> Listed
+    ensures { λ r. ⌜ r ≡ listedOf (decodeOf word) ⌝ }
+{
+    rows::decode(word)
+}
+
+// The word of a row with its operands, or 1 or 10.
+#[no_mangle]
+pub extern "C" fn pollwezen_encode(row: u8, first: u8, second: u8, addr: u16) -> Coded
+    ensures { λ r. ⌜ r ≡ codedOf row first second addr ⌝ }
+{
+    rows::encode(row, first, second, addr)
 }
 
 // Reads a station file into the lent buffers. A refused file writes nothing.
