@@ -12,7 +12,7 @@ use lib.Dec.{ltb, leb, lit≤, lit<}
 use lib.ListN.{getD, length, replicate}
 use Rattle.memory.specs.Chip.{Chip, upd17132, masks17132}
 use Rattle.memory.specs.Range.{cellsInRange}
-use Rattle.memory.specs.Registers.{arOf}
+use Rattle.registers.specs.Registers.{arOf}
 use Rattle.memory.specs.Write.{keptOf}
 use Rattle.cpu.specs.Answers.{Reply, done, inStandby, refused, costOf, refusalOf, Step, Run}
 use Rattle.cpu.specs.Control.{isStandby}

@@ -12,7 +12,7 @@ use Rattle.isa.specs.Decode.{decodeOf}
 use Rattle.isa.specs.declared.Instruction.{Instruction}
 use Rattle.memory.specs.Chip.{Chip}
 use Rattle.memory.specs.Range.{cellsInRange}
-use Rattle.memory.specs.Registers.{arOf}
+use Rattle.registers.specs.Registers.{arOf}
 use Rattle.cpu.specs.Answers.{Reply, done, inStandby, refused, refusalOf, Step}
 use Rattle.cpu.specs.Control.{Transfer, controlOf, isStandby, marked, onwards}
 use Rattle.data.specs.Data.{skipsOf}

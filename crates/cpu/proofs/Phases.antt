@@ -15,7 +15,7 @@ use Rattle.isa.specs.declared.Instruction.{Instruction}
 use Rattle.isa.specs.declared.Instruction.the-variants.{AluRegister, AluImmediate, Skip, Rorc, Ld, St, MovToIndirect, MovFromIndirect, MovImmediate, Peek, Poke, Get, Put, Br, Call, Stop, Halt, Fixed}
 use Rattle.memory.specs.Chip.{Chip}
 use Rattle.cpu.specs.Answers.{Reply, done, inStandby, refused, numberOf, Step}
-use Rattle.memory.specs.Registers.{arOf}
+use Rattle.registers.specs.Registers.{arOf}
 use Rattle.cpu.specs.Control.{Transfer, controlOf, marked}
 use Rattle.data.specs.Data.{skipsOf}
 use Rattle.cpu.specs.Parts.{cellsOf, machineOf, withStack, wholeOf}

@@ -16,7 +16,7 @@ use Rattle.isa.specs.declared.Instruction.the-variants.{AluRegister, AluImmedia
 use Rattle.laws.proofs.Wrap.{wrap-below}
 use Rattle.memory.specs.Chip.{Chip}
 use Rattle.memory.specs.Range.{cellsInRange}
-use Rattle.memory.specs.Registers.{arOf}
+use Rattle.registers.specs.Registers.{arOf}
 use Rattle.memory.proofs.Writes.{ranged}
 use Rattle.cpu.specs.Answers.{Reply, done, inStandby, refused, Step}
 use Rattle.cpu.specs.Control.{Transfer, goes, denies, jump, marked, push, pop, top, next, onwards, unlessFull, unlessEmpty, inReach, controlOf, branchOf, callOf, returnOf, pushOf, popOf, tableOf, standbyOf, onwardOf}

@@ -8,7 +8,7 @@ use native.Mathlib.Omega.{arith}
 use lib.Dec.{eqb}
 use Rattle.isa.specs.declared.Instruction.{Instruction}
 use Rattle.memory.specs.Chip.{Chip}
-use Rattle.memory.specs.Registers.{arOf}
+use Rattle.registers.specs.Registers.{arOf}
 use Rattle.cpu.specs.Answers.{Step, numberOf}
 use Rattle.cpu.specs.Control.{Transfer, goes, denies, controlOf}
 use Rattle.data.specs.Data.{skipsOf}

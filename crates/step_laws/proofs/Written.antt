@@ -17,7 +17,7 @@ use Rattle.isa.specs.declared.Instruction.the-variants.{AluRegister, AluImmedia
 use Rattle.memory.specs.Cells.{isSet}
 use Rattle.memory.specs.Chip.{Chip}
 use Rattle.memory.specs.Names.{PSW, CMP}
-use Rattle.memory.specs.Registers.{arOf}
+use Rattle.registers.specs.Registers.{arOf}
 use Rattle.memory.specs.Write.{Write, _↤_, touches}
 use Rattle.memory.proofs.Writes.{untouched}
 use Rattle.cpu.specs.Control.{top}
