@@ -3,16 +3,15 @@ ghost use mathlib.Core.Path.{_≡_};
 ghost use mathlib.Core.List.{List};
 ghost use Prim.Native.Nat.{ℕ, _≤_};
 ghost use Rattle.memory.specs.Chip.{upd17132};
-ghost use Rattle.cpu.specs.Inside.{executedOf, inputAt};
-ghost use Rattle.cpu.specs.Parts.{wholeOf};
+ghost use Rattle.cpu.specs.Inside.{executedOf, inputAt, wholeOf};
 ghost use Rattle.cpu.specs.Step.{executeOf};
-use crate::Input;
 use crate::Moved;
 use crate::Refusal;
 use crate::Regs;
 use crate::moves;
 use isa::FixedOp;
 use isa::Instruction;
+use machine::Input;
 
 // MOVT: refusal 6 comes before 8.
 fn movt(rom: &[u16], cells: &mut [u8; 128], regs: Regs) -> Moved

@@ -8,7 +8,7 @@ use native.Mathlib.Omega.{arith}
 use lib.Dec.{eqb, leb}
 use Rattle.memory.specs.Chip.{upd17132}
 use borrow.Author.Tests.{leb-true}
-use Rattle.cpu.proofs.Answers.{faithful as told}
+use Rattle.step_laws.proofs.Faithful.{faithful as told}
 use Rattle.cpu.proofs.Inside.{both}
 use Rattle.cpu.specs.Answers.{Reply, done, inStandby, refused, replyOf, endOf, Step, Run, stepOfStepped, runOfRan}
 use Rattle.cpu.specs.Answers as answers
@@ -16,8 +16,8 @@ use Rattle.cpu.specs.Run.{runOf}
 use Rattle.cpu.specs.Step.{stepOf}
 use Rattle.cpu.specs.declared.Answer.{Answer}
 use Rattle.cpu.specs.declared.Answer.the-variants.{Done, Standby, Refused}
-use Rattle.cpu.specs.declared.Input.{Input}
-use Rattle.cpu.specs.declared.Machine.{Machine}
+use Rattle.machine.specs.declared.Input.{Input}
+use Rattle.machine.specs.declared.Machine.{Machine}
 use Rattle.cpu.specs.declared.Ran.{Ran}
 use Rattle.cpu.specs.declared.Refusal.{Refusal}
 use Rattle.cpu.specs.declared.Refusal.the-variants.{OutOfRange, PastRom, NoInstruction, NotInBase, BadTarget, StackFull, StackEmpty, PastTable}

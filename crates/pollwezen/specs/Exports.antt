@@ -8,10 +8,10 @@ use lib.Dec.{eqb, leb}
 use Rattle.memory.specs.Chip.{upd17132}
 use Rattle.cpu.specs.Answers.{Reply, done, inStandby, refused, replyOf, Step, Run}
 use Rattle.cpu.specs.InPlace.{stepInPlaceOf, runInPlaceOf}
-use Rattle.cpu.specs.Parts.{resetMachine}
+use Rattle.machine.specs.Parts.{resetMachine}
 use Rattle.cpu.specs.declared.Answer.{Answer}
-use Rattle.cpu.specs.declared.Input.{Input}
-use Rattle.cpu.specs.declared.Machine.{Machine}
+use Rattle.machine.specs.declared.Input.{Input}
+use Rattle.machine.specs.declared.Machine.{Machine}
 use Rattle.verifier.specs.Verdict as check
 use Rattle.verifier.specs.declared.Verdict.{Verdict}
 use Rattle.pollwezen.specs.declared.Checked.{Checked}

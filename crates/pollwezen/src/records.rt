@@ -11,11 +11,11 @@ use crate::Record;
 use crate::Report;
 use crate::Reported;
 use cpu::Answer;
-use cpu::Control;
 use cpu::End;
-use cpu::Input;
-use cpu::Machine;
 use cpu::Refusal;
+use machine::Control;
+use machine::Input;
+use machine::Machine;
 use memory::Memory;
 use verifier::Verdict;
 

@@ -15,7 +15,7 @@ use Rattle.registers.specs.Registers.{arOf}
 use Rattle.memory.specs.Write.{keptOf, writeOf, writesApplied}
 use Rattle.cpu.specs.Control.{onwardOf, controlOf}
 use Rattle.data.specs.Data.{flagsAfter, arithmeticWrites, resultWrites, rotateWrites, aluWrites, writesOf, skipsOf}
-use Rattle.cpu.specs.Ranges.{controlInRange, machineInRange, inputInRange, romInRange, allInRange}
+use Rattle.machine.specs.Ranges.{controlInRange, machineInRange, inputInRange, romInRange, allInRange}
 use Rattle.cpu.specs.Step.{inBase, runnable, pastTable, writtenOf, executeOf, fetchOf, advanceOf, stepOf}
 use Rattle.step_laws.specs.Cases.{Cases}
 

@@ -22,7 +22,7 @@ use Rattle.memory.specs.Write.{Write, _↤_, touches}
 use Rattle.memory.proofs.Writes.{untouched}
 use Rattle.cpu.specs.Control.{top}
 use Rattle.data.specs.Data.{Data, arithmeticWrites, resultWrites, rotateWrites, skipWrites, aluWrites, writesOf}
-use Rattle.cpu.specs.Parts.{cellsOf}
+use Rattle.machine.specs.Parts.{cellsOf}
 use Rattle.cpu.specs.Step.{dataOf, writtenOf}
 use Rattle.step_laws.specs.WrittenCells.{withFlags, arithmetic, operated, tested, writtenCells, WrittenCells, among, Frame}
 

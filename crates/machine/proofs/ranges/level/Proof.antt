@@ -1,6 +1,6 @@
 use borrow.Author.Tests.{lt-ltb, le-ltb, le-leb, lt-leb, eq-eqb, ne-eqb}
-use Rattle.cpu.proofs.ranges.level.Statement.{statement}
-use Rattle.cpu.proofs.ranges.level.Tie as tie
+use Rattle.machine.proofs.ranges.level.Statement.{statement}
+use Rattle.machine.proofs.ranges.level.Tie as tie
 
 returns : tie.Need-returns
 returns c = simp (lt-ltb _ _ (c .if1 .taken))

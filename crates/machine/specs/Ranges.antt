@@ -8,10 +8,10 @@ use lib.ListN.{getD, length}
 use Rattle.laws.specs.Every.{every}
 use Rattle.memory.specs.Chip.{Chip}
 use Rattle.memory.specs.Range.{cellsInRange}
-use Rattle.cpu.specs.declared.Control.{Control}
-use Rattle.cpu.specs.declared.Input.{Input}
-use Rattle.cpu.specs.declared.Machine.{Machine}
-use Rattle.cpu.specs.Parts.{cellsOf}
+use Rattle.machine.specs.declared.Control.{Control}
+use Rattle.machine.specs.declared.Input.{Input}
+use Rattle.machine.specs.declared.Machine.{Machine}
+use Rattle.machine.specs.Parts.{cellsOf}
 
 -- the record has five places for stacked addresses, whatever the chip
 abbrev pub places : ℕ

@@ -1,9 +1,9 @@
 use borrow.Author.Tests.{lt-ltb, le-ltb, le-leb, lt-leb, eq-eqb, ne-eqb, not-true, not-false}
 use mathlib.Core.Path.{sym, _∙_}
-use Rattle.cpu.specs.Ranges.{inputInRange}
+use Rattle.machine.specs.Ranges.{inputInRange}
 use borrow.Author.Needs.{needs}
-use Rattle.cpu.proofs.ranges.input.Statement.{statement}
-use Rattle.cpu.proofs.ranges.input.Tie as tie
+use Rattle.machine.proofs.ranges.input.Statement.{statement}
+use Rattle.machine.proofs.ranges.input.Tie as tie
 
 nibbles-requires : tie.Need-nibbles-requires
 nibbles-requires c κs = search needs

@@ -3,7 +3,7 @@ ghost use mathlib.Core.Path.{_≡_};
 ghost use mathlib.Core.Bool.{cond};
 ghost use lib.Dec.{eqb, ltb};
 ghost use Rattle.memory.specs.Chip.{upd17132};
-ghost use Rattle.cpu.specs.Ranges.{nibbles, controlInRange, machineInRange, inputInRange, romInRange, allInRange};
+ghost use Rattle.machine.specs.Ranges.{nibbles, controlInRange, machineInRange, inputInRange, romInRange, allInRange};
 use crate::Control;
 use crate::Input;
 use crate::Machine;

@@ -1,9 +1,9 @@
 use borrow.Author.Tests.{lt-ltb, le-ltb, le-leb, lt-leb, eq-eqb, ne-eqb, not-true, not-false}
 use mathlib.Core.Path.{sym, _∙_}
-use Rattle.cpu.specs.Ranges.{allInRange}
+use Rattle.machine.specs.Ranges.{allInRange}
 use borrow.Author.Needs.{needs}
-use Rattle.cpu.proofs.ranges.all.Statement.{statement}
-use Rattle.cpu.proofs.ranges.all.Tie as tie
+use Rattle.machine.proofs.ranges.all.Statement.{statement}
+use Rattle.machine.proofs.ranges.all.Tie as tie
 
 machine-requires : tie.Need-machine-requires
 machine-requires c κs = search needs

@@ -1,8 +1,8 @@
 use mathlib.Core.Bool.{and-true}
 use borrow.Author.Tests.{lt-ltb, le-ltb, le-leb, lt-leb, eq-eqb, ne-eqb}
 use borrow.Author.Needs.{needs}
-use Rattle.cpu.proofs.ranges.nibbles.Statement.{statement}
-use Rattle.cpu.proofs.ranges.nibbles.Tie as tie
+use Rattle.machine.proofs.ranges.nibbles.Statement.{statement}
+use Rattle.machine.proofs.ranges.nibbles.Tie as tie
 
 array-read-if1 : tie.Need-array-read-if1
 array-read-if1 c = search needs

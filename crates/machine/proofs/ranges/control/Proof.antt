@@ -1,10 +1,10 @@
 use borrow.Author.Tests.{lt-ltb, le-ltb, le-leb, lt-leb, eq-eqb, ne-eqb, not-true, not-false}
 use mathlib.Core.Path.{sym, _∙_}
 use mathlib.Core.Bool.{and-true}
-use Rattle.cpu.specs.Ranges.{controlInRange}
+use Rattle.machine.specs.Ranges.{controlInRange}
 use borrow.Author.Needs.{needs}
-use Rattle.cpu.proofs.ranges.control.Statement.{statement}
-use Rattle.cpu.proofs.ranges.control.Tie as tie
+use Rattle.machine.proofs.ranges.control.Statement.{statement}
+use Rattle.machine.proofs.ranges.control.Tie as tie
 
 returns : tie.Need-returns
 unfolding controlInRange

@@ -1,6 +1,6 @@
 use borrow.Author.Needs.{needs}
-use Rattle.cpu.proofs.Machine.reset.Statement.{statement}
-use Rattle.cpu.proofs.Machine.reset.Tie as tie
+use Rattle.machine.proofs.Machine.reset.Statement.{statement}
+use Rattle.machine.proofs.Machine.reset.Tie as tie
 
 reset-requires : tie.Need-reset-requires
 reset-requires c κs = search needs

@@ -5,9 +5,8 @@ use mathlib.Core.List.{List}
 use Prim.Native.Nat.{ℕ}
 use lib.ListN.{replicate}
 use Rattle.memory.specs.Range.{resetMemory}
-use Rattle.cpu.specs.declared.Control.{Control}
-use Rattle.cpu.specs.declared.Machine.{Machine}
-use Rattle.cpu.specs.declared.Regs.{Regs}
+use Rattle.machine.specs.declared.Control.{Control}
+use Rattle.machine.specs.declared.Machine.{Machine}
 
 -- what stands in the cells
 abbrev pub cellsOf : Machine → List ℕ
@@ -20,16 +19,9 @@ withControl c m = record { memory = m .memory; control = c }
 abbrev pub withCells : List ℕ → Machine → Machine
 withCells cells m = record { memory = record { cells = cells }; control = m .control }
 
--- the control whose stack stands apart from it, as the code keeps it while it steps
-abbrev pub withStack : List ℕ → Regs → Control
-withStack stack r = record { pc = r .pc; stack = stack; levels = r .levels; skip = r .skip; standby = r .standby }
-
 -- the record put together
 abbrev pub machineOf : List ℕ → Control → Machine
 machineOf cells c = record { memory = record { cells = cells }; control = c }
-
-abbrev pub wholeOf : List ℕ → List ℕ → Regs → Machine
-wholeOf cells stack r = machineOf cells (withStack stack r)
 
 -- "Reset gives all zeros and no mark"
 abbrev pub resetControl : Control

@@ -5,13 +5,14 @@ use mathlib.Core.List.{[], _∷_}
 use Prim.Native.Nat.{ℕ, _-_}
 use native.Mathlib.Omega.{arith}
 use lib.ListN.{getD}
-use Rattle.station_file.specs.Answers.{faultNumber, readReply, writeReply, Faithful}
+use Rattle.station_file.specs.Answers.{faultNumber, readReply, writeReply}
+use Rattle.station_laws.specs.Faithful.{Faithful}
 use Rattle.station_file.specs.declared.Fault.{Fault}
 use Rattle.station_file.specs.declared.Fault.the-variants.{Form, Early, Count, Entry, After, Room}
 use Rattle.station_file.specs.declared.Loaded.{Loaded}
 use Rattle.station_file.specs.declared.Loaded.the-variants as loaded
 use Rattle.station_file.specs.declared.Written.{Written}
 use Rattle.station_file.specs.declared.Written.the-variants as written
 
 -- the fault with a number
 back : ℕ → Fault

@@ -1,9 +1,9 @@
 use borrow.Author.Tests.{lt-ltb, le-ltb, le-leb, lt-leb, eq-eqb, ne-eqb, not-true, not-false}
 use mathlib.Core.Path.{sym, _∙_}
-use Rattle.cpu.specs.Ranges.{machineInRange}
+use Rattle.machine.specs.Ranges.{machineInRange}
 use borrow.Author.Needs.{needs}
-use Rattle.cpu.proofs.ranges.machine.Statement.{statement}
-use Rattle.cpu.proofs.ranges.machine.Tie as tie
+use Rattle.machine.proofs.ranges.machine.Statement.{statement}
+use Rattle.machine.proofs.ranges.machine.Tie as tie
 
 in-range-requires : tie.Need-in-range-requires
 in-range-requires c κs = search needs

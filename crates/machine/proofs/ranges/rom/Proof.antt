@@ -1,10 +1,10 @@
 use borrow.Author.Tests.{lt-ltb, le-ltb, le-leb, lt-leb, eq-eqb, ne-eqb, not-true, not-false}
 use mathlib.Core.Path.{sym, _∙_}
-use Rattle.cpu.specs.Ranges.{romInRange}
+use Rattle.machine.specs.Ranges.{romInRange}
 use lib.ListN.{length}
 use native.Mathlib.Omega.{arith}
-use Rattle.cpu.proofs.ranges.rom.Statement.{statement}
-use Rattle.cpu.proofs.ranges.rom.Tie as tie
+use Rattle.machine.proofs.ranges.rom.Statement.{statement}
+use Rattle.machine.proofs.ranges.rom.Tie as tie
 
 returns : tie.Need-returns
 unfolding romInRange
