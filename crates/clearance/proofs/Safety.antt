@@ -12,16 +12,16 @@ use lib.Dec.{ltb, leb, lit≤, lit<}
 use lib.ListN.{getD, length, replicate}
 use Rattle.memory.specs.Chip.{Chip, upd17132, masks17132}
 use Rattle.memory.specs.Range.{cellsInRange}
-use Rattle.memory.specs.Registers.{arOf}
+use Rattle.registers.specs.Registers.{arOf}
 use Rattle.memory.specs.Write.{keptOf}
 use Rattle.cpu.specs.Answers.{Reply, done, inStandby, refused, costOf, refusalOf, Step, Run}
 use Rattle.cpu.specs.Control.{isStandby}
-use Rattle.cpu.specs.Parts.{resetMachine}
-use Rattle.cpu.specs.Ranges.{places, controlInRange, machineInRange, inputInRange, romInRange, allInRange, budgetInRange}
+use Rattle.machine.specs.Parts.{resetMachine}
+use Rattle.machine.specs.Ranges.{places, controlInRange, machineInRange, inputInRange, romInRange, allInRange, budgetInRange}
 use Rattle.cpu.specs.Run.{afterStep, ended, runFrom, runOf}
 use Rattle.cpu.specs.Step.{denied, stepOf}
-use Rattle.cpu.specs.declared.Input.{Input}
-use Rattle.cpu.specs.declared.Machine.{Machine}
+use Rattle.machine.specs.declared.Input.{Input}
+use Rattle.machine.specs.declared.Machine.{Machine}
 use Rattle.cpu.proofs.ArFits.{ar-fits}
 use Rattle.cpu.proofs.Inside.{both, all-parts}
 use Rattle.cpu.proofs.Ranged.{ArFits, steps}

@@ -12,16 +12,16 @@ use Rattle.isa.specs.Decode.{decodeOf}
 use Rattle.isa.specs.declared.Instruction.{Instruction}
 use Rattle.memory.specs.Chip.{Chip}
 use Rattle.memory.specs.Range.{cellsInRange}
-use Rattle.memory.specs.Registers.{arOf}
+use Rattle.registers.specs.Registers.{arOf}
 use Rattle.cpu.specs.Answers.{Reply, done, inStandby, refused, refusalOf, Step}
 use Rattle.cpu.specs.Control.{Transfer, controlOf, isStandby, marked, onwards}
 use Rattle.data.specs.Data.{skipsOf}
-use Rattle.cpu.specs.Parts.{cellsOf, withCells, withControl}
-use Rattle.cpu.specs.Ranges.{places, machineInRange, allInRange}
+use Rattle.machine.specs.Parts.{cellsOf, withCells, withControl}
+use Rattle.machine.specs.Ranges.{places, machineInRange, allInRange}
 use Rattle.cpu.specs.Step.{completed, denied, woken, leaving, dataOf, writtenOf, settleOf, executeOf, passOver, advanceOf, stepOf}
-use Rattle.cpu.specs.declared.Control.{Control}
-use Rattle.cpu.specs.declared.Input.{Input}
-use Rattle.cpu.specs.declared.Machine.{Machine}
+use Rattle.machine.specs.declared.Control.{Control}
+use Rattle.machine.specs.declared.Input.{Input}
+use Rattle.machine.specs.declared.Machine.{Machine}
 use Rattle.cpu.proofs.Inside.{both, machine-parts}
 use Rattle.cpu.proofs.Phases.{stays, passed-over, executed}
 use Rattle.cpu.proofs.Turns.{step-advances}

@@ -9,11 +9,11 @@ use Rattle.memory.specs.Chip.{Chip}
 use Rattle.cpu.specs.Answers.{Reply, done, inStandby, refused, refusalOf}
 use Rattle.cpu.specs.Control.{isStandby}
 use Rattle.cpu.specs.InPlace.{stepInPlaceOf, runInPlaceOf}
-use Rattle.cpu.specs.Ranges.{allInRange, inputInRange, budgetInRange}
+use Rattle.machine.specs.Ranges.{allInRange, inputInRange, budgetInRange}
 use Rattle.cpu.specs.Run.{runOf}
 use Rattle.cpu.specs.Step.{stepOf}
-use Rattle.cpu.specs.declared.Input.{Input}
-use Rattle.cpu.specs.declared.Machine.{Machine}
+use Rattle.machine.specs.declared.Input.{Input}
+use Rattle.machine.specs.declared.Machine.{Machine}
 use Rattle.flow.specs.Flow.{wordFlow}
 use Rattle.flow.specs.declared.Flow.{Flow}
 use Rattle.flow.specs.declared.Flow.the-variants.{Onward, Skips, Branches, Calls, Returns, ReturnsSkip, ReadsTable, StandsBy, Barred}

@@ -10,11 +10,11 @@ use Prim.Native.Nat.{ℕ, zero, suc, _+_, _<_}
 use lib.ListN.{length}
 use Rattle.memory.specs.Chip.{Chip}
 use Rattle.cpu.specs.Control.{isStandby}
-use Rattle.cpu.specs.Parts.{resetMachine}
-use Rattle.cpu.specs.Ranges.{allInRange, budgetInRange}
+use Rattle.machine.specs.Parts.{resetMachine}
+use Rattle.machine.specs.Ranges.{allInRange, budgetInRange}
 use Rattle.cpu.specs.Step.{stepOf}
-use Rattle.cpu.specs.declared.Input.{Input}
-use Rattle.cpu.specs.declared.Machine.{Machine}
+use Rattle.machine.specs.declared.Input.{Input}
+use Rattle.machine.specs.declared.Machine.{Machine}
 use Rattle.clearance.specs.Calls.{Call, step, run, stepInPlace, runInPlace, ownInRange, Tally, noCalls, ifGoesOn, stepTally, refusalAt, leftBy, tallyAfter}
 use Rattle.clearance.specs.Entry.{holds}
 use Rattle.clearance.specs.Rules.{entryAt}

@@ -10,11 +10,11 @@ use lib.Dec.{ltb, leb}
 use Rattle.laws.specs.Every.{every}
 use Rattle.memory.specs.Chip.{Chip}
 use Rattle.memory.specs.Range.{cellsInRange}
-use Rattle.cpu.specs.Parts.{cellsOf}
-use Rattle.cpu.specs.Ranges.{places, levelInRange, controlInRange, machineInRange, inputInRange, romInRange, allInRange}
-use Rattle.cpu.specs.declared.Control.{Control}
-use Rattle.cpu.specs.declared.Input.{Input}
-use Rattle.cpu.specs.declared.Machine.{Machine}
+use Rattle.machine.specs.Parts.{cellsOf}
+use Rattle.machine.specs.Ranges.{places, levelInRange, controlInRange, machineInRange, inputInRange, romInRange, allInRange}
+use Rattle.machine.specs.declared.Control.{Control}
+use Rattle.machine.specs.declared.Input.{Input}
+use Rattle.machine.specs.declared.Machine.{Machine}
 
 pub both : (a b : Bool) → (a && b) ≡ true → (a ≡ true) × (b ≡ true)
 both true b e = (refl, e)

@@ -11,7 +11,7 @@ use Rattle.isa.specs.declared.Instruction.{Instruction}
 use Rattle.isa.specs.declared.Instruction.the-variants.{AluRegister, AluImmediate, Skip, Rorc, Ld, St, MovToIndirect, MovFromIndirect, MovImmediate, Peek, Poke, Get, Put, Br, Call, Stop, Halt, Fixed}
 use Rattle.memory.specs.Chip.{Chip}
 use Rattle.cpu.specs.Control.{Transfer, goes, denies, jump, marked, push, pop, top, next, onwards, unlessFull, unlessEmpty, inReach, controlOf, branchOf, callOf, returnOf, pushOf, popOf, tableOf, standbyOf, onwardOf}
-use Rattle.cpu.specs.declared.Control.{Control}
+use Rattle.machine.specs.declared.Control.{Control}
 
 abbrev pub Keeps : Control → Transfer → Type 0
 Keeps c s = eqb (s .refusal) 0 ≡ false → s .control ≡ c

@@ -7,4 +7,3 @@ pub mod Ranged
 pub mod ArFits
 pub mod Turns
 pub mod Loop
-pub mod Answers

@@ -9,11 +9,11 @@ use lib.Dec.{eqb}
 use Rattle.memory.specs.Chip.{Chip}
 use Rattle.cpu.specs.Answers.{Reply, done, inStandby, refused, refusalOf, Step}
 use Rattle.cpu.specs.Control.{isStandby}
-use Rattle.cpu.specs.Ranges.{allInRange, machineInRange, places}
+use Rattle.machine.specs.Ranges.{allInRange, machineInRange, places}
 use Rattle.cpu.specs.Run.{runFrom, runOf, ended}
 use Rattle.cpu.specs.Step.{stepOf, advanceOf, completed, denied}
-use Rattle.cpu.specs.declared.Input.{Input}
-use Rattle.cpu.specs.declared.Machine.{Machine}
+use Rattle.machine.specs.declared.Input.{Input}
+use Rattle.machine.specs.declared.Machine.{Machine}
 use Rattle.cpu.proofs.Inside.{all-parts}
 use Rattle.cpu.proofs.Phases.{stays}
 use Rattle.cpu.proofs.Ranged.{ArFits, advances}

@@ -15,17 +15,17 @@ use Rattle.isa.specs.declared.Instruction.{Instruction}
 use Rattle.isa.specs.declared.Instruction.the-variants.{AluRegister, AluImmediate, Skip, Rorc, Ld, St, MovToIndirect, MovFromIndirect, MovImmediate, Peek, Poke, Get, Put, Br, Call, Stop, Halt, Fixed}
 use Rattle.memory.specs.Chip.{Chip}
 use Rattle.cpu.specs.Answers.{Reply, done, inStandby, refused, numberOf, Step}
-use Rattle.memory.specs.Registers.{arOf}
+use Rattle.registers.specs.Registers.{arOf}
 use Rattle.cpu.specs.Control.{Transfer, controlOf, marked}
 use Rattle.data.specs.Data.{skipsOf}
-use Rattle.cpu.specs.Parts.{cellsOf, machineOf, withStack, wholeOf}
-use Rattle.cpu.specs.Inside.{fetchedOf, executedOf}
+use Rattle.machine.specs.Parts.{cellsOf, machineOf}
+use Rattle.cpu.specs.Inside.{withStack, wholeOf, fetchedOf, executedOf}
 use Rattle.cpu.specs.Step.{denied, completed, dataOf, writtenOf, pastTable, woken, leaving, inBase, runnable, runsOf, executeOf, decodedOf, passOver, fetchOf, advanceOf}
-use Rattle.cpu.specs.declared.Control.{Control}
+use Rattle.machine.specs.declared.Control.{Control}
 use Rattle.cpu.specs.declared.Fetched.{Fetched}
 use Rattle.cpu.specs.declared.Fetched.the-variants.{Word, Past}
-use Rattle.cpu.specs.declared.Input.{Input}
-use Rattle.cpu.specs.declared.Machine.{Machine}
+use Rattle.machine.specs.declared.Input.{Input}
+use Rattle.machine.specs.declared.Machine.{Machine}
 use Rattle.cpu.specs.declared.Moved.{Moved}
 use Rattle.cpu.specs.declared.Moved.the-variants.{To, Refused}
 use Rattle.cpu.specs.declared.Regs.{Regs}

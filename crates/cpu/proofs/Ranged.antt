@@ -16,17 +16,17 @@ use Rattle.isa.specs.declared.Instruction.the-variants.{AluRegister, AluImmedia
 use Rattle.laws.proofs.Wrap.{wrap-below}
 use Rattle.memory.specs.Chip.{Chip}
 use Rattle.memory.specs.Range.{cellsInRange}
-use Rattle.memory.specs.Registers.{arOf}
+use Rattle.registers.specs.Registers.{arOf}
 use Rattle.memory.proofs.Writes.{ranged}
 use Rattle.cpu.specs.Answers.{Reply, done, inStandby, refused, Step}
 use Rattle.cpu.specs.Control.{Transfer, goes, denies, jump, marked, push, pop, top, next, onwards, unlessFull, unlessEmpty, inReach, controlOf, branchOf, callOf, returnOf, pushOf, popOf, tableOf, standbyOf, onwardOf}
 use Rattle.data.specs.Data.{skipsOf, writesOf}
-use Rattle.cpu.specs.Parts.{cellsOf, machineOf}
-use Rattle.cpu.specs.Ranges.{places, controlInRange, machineInRange, allInRange}
+use Rattle.machine.specs.Parts.{cellsOf, machineOf}
+use Rattle.machine.specs.Ranges.{places, controlInRange, machineInRange, allInRange}
 use Rattle.cpu.specs.Step.{denied, completed, woken, leaving, dataOf, pastTable, writtenOf, settleOf, executeOf, runsOf, decodedOf, passOver, fetchOf, advanceOf, stepOf}
-use Rattle.cpu.specs.declared.Control.{Control}
-use Rattle.cpu.specs.declared.Input.{Input}
-use Rattle.cpu.specs.declared.Machine.{Machine}
+use Rattle.machine.specs.declared.Control.{Control}
+use Rattle.machine.specs.declared.Input.{Input}
+use Rattle.machine.specs.declared.Machine.{Machine}
 use Rattle.cpu.proofs.Inside.{machine-parts}
 use Rattle.cpu.proofs.Levels.{Fine, fine, in-range, jumped, went-on, with-marks, pushed, popped, top-below}
 

@@ -8,16 +8,16 @@ use native.Mathlib.Omega.{arith}
 use lib.Dec.{eqb}
 use Rattle.isa.specs.declared.Instruction.{Instruction}
 use Rattle.memory.specs.Chip.{Chip}
-use Rattle.memory.specs.Registers.{arOf}
+use Rattle.registers.specs.Registers.{arOf}
 use Rattle.cpu.specs.Answers.{Step, numberOf}
 use Rattle.cpu.specs.Control.{Transfer, goes, denies, controlOf}
 use Rattle.data.specs.Data.{skipsOf}
-use Rattle.cpu.specs.Inside.{transferOf, executedOf}
-use Rattle.cpu.specs.Parts.{withStack, wholeOf, machineOf}
+use Rattle.cpu.specs.Inside.{transferOf, executedOf, withStack, wholeOf}
+use Rattle.machine.specs.Parts.{machineOf}
 use Rattle.cpu.specs.Step.{executeOf, settleOf, writtenOf, pastTable, dataOf, completed, denied}
-use Rattle.cpu.specs.declared.Control.{Control}
-use Rattle.cpu.specs.declared.Input.{Input}
-use Rattle.cpu.specs.declared.Machine.{Machine}
+use Rattle.machine.specs.declared.Control.{Control}
+use Rattle.machine.specs.declared.Input.{Input}
+use Rattle.machine.specs.declared.Machine.{Machine}
 use Rattle.cpu.specs.declared.Moved.{Moved}
 use Rattle.cpu.specs.declared.Moved.the-variants.{To, Refused}
 use Rattle.cpu.specs.declared.Refusal.{Refusal}

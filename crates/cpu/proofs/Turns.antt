@@ -10,11 +10,11 @@ use borrow.Author.Tests.{le-leb, lt-leb}
 use Rattle.memory.specs.Chip.{Chip}
 use Rattle.cpu.specs.Answers.{Reply, done, inStandby, refused, costOf, refusalOf, Step, Run}
 use Rattle.cpu.specs.Control.{isStandby}
-use Rattle.cpu.specs.Ranges.{machineInRange, inputInRange, romInRange, allInRange, budgetInRange}
+use Rattle.machine.specs.Ranges.{machineInRange, inputInRange, romInRange, allInRange, budgetInRange}
 use Rattle.cpu.specs.Run.{runFrom, runOf, afterStep, ended}
 use Rattle.cpu.specs.Step.{stepOf, advanceOf, denied}
-use Rattle.cpu.specs.declared.Input.{Input}
-use Rattle.cpu.specs.declared.Machine.{Machine}
+use Rattle.machine.specs.declared.Input.{Input}
+use Rattle.machine.specs.declared.Machine.{Machine}
 
 module _ (chip : Chip) (rom : List ℕ) (input : Input) where
   pub all-of : (m : Machine) → machineInRange chip m ≡ true → inputInRange input ≡ true → romInRange chip rom ≡ true

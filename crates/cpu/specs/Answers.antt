@@ -1,6 +1,5 @@
 -- What a step and a run answer, in the numbers of document 01, "Refusal numbers".
 -- Assumes nothing.
-use mathlib.Core.Path.{_≡_}
 use mathlib.Core.Bool.{Bool, true, false}
 use Prim.Native.Nat.{ℕ}
 use Rattle.cpu.specs.declared.Refusal.{Refusal}
@@ -9,7 +8,7 @@ use Rattle.cpu.specs.declared.Answer.{Answer}
 use Rattle.cpu.specs.declared.Answer.the-variants.{Done, Standby, Refused}
 use Rattle.cpu.specs.declared.End.{End}
 use Rattle.cpu.specs.declared.End.the-variants as end
-use Rattle.cpu.specs.declared.Machine.{Machine}
+use Rattle.machine.specs.declared.Machine.{Machine}
 use Rattle.cpu.specs.declared.Stepped.{Stepped}
 use Rattle.cpu.specs.declared.Ran.{Ran}
 
@@ -70,11 +69,6 @@ pub record Run : Type 0 where
   pub steps : ℕ
   pub refusal : ℕ
   pub machine : Machine
-
--- what stands for each answer loses nothing
-pub record Faithful : Type 0 where
-  pub replies : (a b : Answer) → replyOf a ≡ replyOf b → a ≡ b
-  pub ends : (a b : End) → endOf a ≡ endOf b → a ≡ b
 
 abbrev pub runOfRan : Ran → Run
 runOfRan r = record { steps = r .report .steps; refusal = endOf (r .report .end); machine = r .machine }

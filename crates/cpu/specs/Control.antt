@@ -10,7 +10,7 @@ use Rattle.isa.specs.declared.Instruction.{Instruction}
 use Rattle.isa.specs.declared.Instruction.the-variants.{AluRegister, AluImmediate, Skip, Rorc, Ld, St, MovToIndirect, MovFromIndirect, MovImmediate, Peek, Poke, Get, Put, Br, Call, Stop, Halt, Fixed}
 use Rattle.laws.specs.Wrap.{wrapNext}
 use Rattle.memory.specs.Chip.{Chip}
-use Rattle.cpu.specs.declared.Control.{Control}
+use Rattle.machine.specs.declared.Control.{Control}
 
 -- a refusal, 0 for none, and the control after it
 pub record Transfer : Type 0 where

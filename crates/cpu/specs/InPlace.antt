@@ -8,8 +8,8 @@ use Rattle.memory.specs.Chip.{Chip}
 use Rattle.cpu.specs.Answers.{Step, Run}
 use Rattle.cpu.specs.Run.{runOf}
 use Rattle.cpu.specs.Step.{stepOf}
-use Rattle.cpu.specs.declared.Input.{Input}
-use Rattle.cpu.specs.declared.Machine.{Machine}
+use Rattle.machine.specs.declared.Input.{Input}
+use Rattle.machine.specs.declared.Machine.{Machine}
 
 module _ (chip : Chip) (rom : List ℕ) (input : Input) where
   abbrev pub stepInPlaceOf : Machine → Step

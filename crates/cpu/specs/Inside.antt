@@ -7,14 +7,24 @@ use lib.Dec.{leb}
 use lib.ListN.{getD, length}
 use Rattle.cpu.specs.Answers.{Step, numberOf}
 use Rattle.cpu.specs.Control.{Transfer, goes, denies}
-use Rattle.cpu.specs.Parts.{withStack, wholeOf}
+use Rattle.machine.specs.Parts.{machineOf}
 use Rattle.cpu.specs.Step.{completed, denied}
 use Rattle.cpu.specs.declared.Fetched.{Fetched}
 use Rattle.cpu.specs.declared.Fetched.the-variants.{Word, Past}
-use Rattle.cpu.specs.declared.Input.{Input}
+use Rattle.machine.specs.declared.Control.{Control}
+use Rattle.machine.specs.declared.Input.{Input}
+use Rattle.machine.specs.declared.Machine.{Machine}
 use Rattle.cpu.specs.declared.Moved.{Moved}
 use Rattle.cpu.specs.declared.Moved.the-variants.{To, Refused}
 use Rattle.cpu.specs.declared.Regs.{Regs}
+
+-- the control whose stack stands apart from it, as the code keeps it while it steps
+abbrev pub withStack : List ℕ → Regs → Control
+withStack stack r = record { pc = r .pc; stack = stack; levels = r .levels; skip = r .skip; standby = r .standby }
+
+-- the record put together
+abbrev pub wholeOf : List ℕ → List ℕ → Regs → Machine
+wholeOf cells stack r = machineOf cells (withStack stack r)
 
 -- the stack after, the registers before, and the answer
 abbrev pub transferOf : List ℕ → Regs → Moved → Transfer

@@ -1,6 +1,4 @@
 pub mod Answers
-pub mod Parts
-pub mod Ranges
 pub mod Control
 pub mod Step
 pub mod Run

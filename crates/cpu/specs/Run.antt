@@ -6,10 +6,10 @@ use Prim.Native.Nat.{ℕ, zero, suc, _+_}
 use Rattle.memory.specs.Chip.{Chip}
 use Rattle.cpu.specs.Answers.{Reply, done, inStandby, refused, costOf, Step, Run}
 use Rattle.cpu.specs.Control.{isStandby}
-use Rattle.cpu.specs.Ranges.{allInRange, budgetInRange}
+use Rattle.machine.specs.Ranges.{allInRange, budgetInRange}
 use Rattle.cpu.specs.Step.{stepOf}
-use Rattle.cpu.specs.declared.Input.{Input}
-use Rattle.cpu.specs.declared.Machine.{Machine}
+use Rattle.machine.specs.declared.Input.{Input}
+use Rattle.machine.specs.declared.Machine.{Machine}
 
 abbrev pub ended : ℕ → ℕ → Machine → Run
 ended steps refusal m = record { steps = steps; refusal = refusal; machine = m }

@@ -12,16 +12,16 @@ use Rattle.isa.specs.declared.FixedOp.the-variants.{IncAr, IncIx, Movt, PushAr,
 use Rattle.isa.specs.declared.Instruction.{Instruction}
 use Rattle.isa.specs.declared.Instruction.the-variants.{AluRegister, AluImmediate, Skip, Rorc, Ld, St, MovToIndirect, MovFromIndirect, MovImmediate, Peek, Poke, Get, Put, Br, Call, Stop, Halt, Fixed}
 use Rattle.memory.specs.Chip.{Chip}
-use Rattle.memory.specs.Registers.{arOf}
+use Rattle.registers.specs.Registers.{arOf}
 use Rattle.memory.specs.Write.{writesApplied}
 use Rattle.cpu.specs.Answers.{Reply, done, inStandby, refused, Step}
 use Rattle.cpu.specs.Control.{Transfer, controlOf, isStandby, marked, onwards, top}
 use Rattle.data.specs.Data.{Data, writesOf, skipsOf}
-use Rattle.cpu.specs.Parts.{cellsOf, withCells, withControl}
-use Rattle.cpu.specs.Ranges.{allInRange}
-use Rattle.cpu.specs.declared.Control.{Control}
-use Rattle.cpu.specs.declared.Input.{Input}
-use Rattle.cpu.specs.declared.Machine.{Machine}
+use Rattle.machine.specs.Parts.{cellsOf, withCells, withControl}
+use Rattle.machine.specs.Ranges.{allInRange}
+use Rattle.machine.specs.declared.Control.{Control}
+use Rattle.machine.specs.declared.Input.{Input}
+use Rattle.machine.specs.declared.Machine.{Machine}
 
 -- refusal 4: EI, DI, RETI, PEEK, POKE, GET, PUT
 unfoldable pub inBase : Instruction → Bool

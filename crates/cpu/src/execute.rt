@@ -3,16 +3,15 @@ ghost use mathlib.Core.Path.{_≡_};
 ghost use mathlib.Core.List.{List};
 ghost use Prim.Native.Nat.{ℕ, _≤_};
 ghost use Rattle.memory.specs.Chip.{upd17132};
-ghost use Rattle.cpu.specs.Inside.{executedOf, inputAt};
-ghost use Rattle.cpu.specs.Parts.{wholeOf};
+ghost use Rattle.cpu.specs.Inside.{executedOf, inputAt, wholeOf};
 ghost use Rattle.cpu.specs.Step.{executeOf};
-use crate::Input;
 use crate::Moved;
 use crate::Refusal;
 use crate::Regs;
 use crate::moves;
 use isa::FixedOp;
 use isa::Instruction;
+use machine::Input;
 
 // MOVT: refusal 6 comes before 8.
 fn movt(rom: &[u16], cells: &mut [u8; 128], regs: Regs) -> Moved
@@ -22,11 +21,11 @@ fn movt(rom: &[u16], cells: &mut [u8; 128], regs: Regs) -> Moved
     let Moved::To(next) = moved else {
         return moved;
     };
-    let ar = memory::ar(&*cells) as usize;
+    let ar = registers::ar(&*cells) as usize;
     if rom.len() <= ar {
         return Moved::Refused(Refusal::PastTable);
     }
-    *cells = memory::write_buffer(*cells, rom[ar]);
+    *cells = registers::write_buffer(*cells, rom[ar]);
     Moved::To(next)
 }
 
@@ -40,7 +39,7 @@ fn pop_ar(cells: &mut [u8; 128], stack: &mut [u16; 5], regs: Regs) -> Moved
         return Moved::Refused(Refusal::StackEmpty);
     }
     let top = stack[(levels - 1) as usize];
-    *cells = memory::write_ar(*cells, top);
+    *cells = registers::write_ar(*cells, top);
     moves::pop(stack, regs)
 }
 
@@ -51,18 +50,18 @@ fn fixed(rom: &[u16], op: FixedOp, cells: &mut [u8; 128], stack: &mut [u16; 5], 
 {
     match op {
         FixedOp::IncAr => {
-            *cells = memory::increment_ar(*cells);
+            *cells = registers::increment_ar(*cells);
             return Moved::To(moves::onward(regs, false));
         }
         FixedOp::IncIx => {
-            *cells = memory::increment_ix(*cells);
+            *cells = registers::increment_ix(*cells);
             return Moved::To(moves::onward(regs, false));
         }
         FixedOp::Movt => return movt(rom, cells, regs),
-        FixedOp::PushAr => return moves::push(stack, regs, memory::ar(&*cells)),
+        FixedOp::PushAr => return moves::push(stack, regs, registers::ar(&*cells)),
         FixedOp::PopAr => return pop_ar(cells, stack, regs),
-        FixedOp::BrAr => return Moved::To(moves::jump(regs, memory::ar(&*cells))),
-        FixedOp::CallAr => return moves::call(stack, regs, memory::ar(&*cells)),
+        FixedOp::BrAr => return Moved::To(moves::jump(regs, registers::ar(&*cells))),
+        FixedOp::CallAr => return moves::call(stack, regs, registers::ar(&*cells)),
         FixedOp::Ret => return moves::ret(stack, regs, false),
         FixedOp::Retsk => return moves::ret(stack, regs, true),
         FixedOp::Reti => return Moved::Refused(Refusal::NotInBase),

@@ -1,38 +1,12 @@
-// The machine, its step and its counted run.
+// The single step and the counted run.
 mod execute;
 mod moves;
-mod ranges;
 mod running;
 mod stepping;
 
+use machine::Machine;
 pub use running::run;
 pub use running::step;
-ghost use mathlib.Core.Path.{_≡_};
-ghost use Rattle.cpu.specs.Parts.{resetMachine};
-use memory::Memory;
-
-// Document 01's input record: the pins and directions of P0A to P0E, and the release bit.
-pub struct Input {
-    pub pins: [u8; 5],
-    pub directions: [u8; 5],
-    pub release: u8,
-}
-
-// All of the machine's record but its memory. Document 01 calls the standby mark standing, and the skip mark skip pending.
-pub struct Control {
-    pub pc: u16,
-    pub stack: [u16; 5],
-    // How many levels of the stack are open.
-    pub levels: u8,
-    pub skip: bool,
-    pub standby: bool,
-}
-
-// The machine's record.
-pub struct Machine {
-    pub memory: Memory,
-    pub control: Control,
-}
 
 // Why a step is refused: refusals 1 to 8, in their order.
 pub enum Refusal {
@@ -102,21 +76,4 @@ struct Gone {
     steps: u32,
     answer: Answer,
     machine: Machine,
-}
-
-impl Machine {
-    pub fn reset() -> Machine
-        ensures { λ r. ⌜ r ≡ resetMachine ⌝ }
-    {
-        Machine {
-            memory: Memory::reset(),
-            control: Control {
-                pc: 0,
-                stack: [0u16; 5],
-                levels: 0,
-                skip: false,
-                standby: false,
-            },
-        }
-    }
 }

@@ -7,18 +7,18 @@ ghost use Rattle.cpu.specs.Step.{stepOf};
 use crate::Answer;
 use crate::End;
 use crate::Gone;
-use crate::Input;
-use crate::Machine;
 use crate::Moved;
 use crate::Ran;
 use crate::Refusal;
 use crate::Report;
 use crate::Stepped;
-use crate::ranges;
 use crate::stepping::advance;
 use crate::stepping::join;
 use crate::stepping::regs_of;
 use crate::stepping::stays;
+use machine::Input;
+use machine::Machine;
+use machine::ranges;
 
 // How a run ends whose last step was not completed.
 fn end_of(answer: Answer) -> End

@@ -6,18 +6,17 @@ ghost use Prim.Native.Nat.{ℕ, _≤_};
 ghost use lib.Dec.{eqb};
 ghost use Rattle.memory.specs.Chip.{upd17132};
 ghost use Rattle.cpu.specs.Control.{marked};
-ghost use Rattle.cpu.specs.Inside.{fetchedOf, executedOf, inputAt};
-ghost use Rattle.cpu.specs.Parts.{withStack, wholeOf};
+ghost use Rattle.cpu.specs.Inside.{fetchedOf, executedOf, inputAt, withStack, wholeOf};
 ghost use Rattle.cpu.specs.Step.{advanceOf};
-use crate::Control;
 use crate::Fetched;
-use crate::Machine;
 use crate::Moved;
 use crate::Refusal;
 use crate::Regs;
 use crate::execute::execute;
 use crate::moves;
 use isa::Decoded;
+use machine::Control;
+use machine::Machine;
 use memory::Memory;
 
 // The word at an address.

@@ -15,12 +15,12 @@ use Rattle.isa.specs.declared.Instruction.{Instruction}
 use Rattle.isa.specs.declared.Instruction.the-variants.{AluRegister, AluImmediate, Skip, Rorc, Ld, St, MovToIndirect, MovFromIndirect, MovImmediate, Peek, Poke, Get, Put, Br, Call, Stop, Halt, Fixed}
 use Rattle.alu.specs.declared.Outcome.{Outcome}
 use Rattle.alu.specs.Results.{operateOf, rotateOf, zeroOf, skipsOf as conditionOf}
-use Rattle.memory.specs.Address.{addressOf, registerOf, indirectOf}
+use Rattle.registers.specs.Address.{addressOf, registerOf, indirectOf}
 use Rattle.memory.specs.Cells.{cellAt, isSet, withFlag}
 use Rattle.memory.specs.Chip.{Chip}
 use Rattle.memory.specs.Names.{PSW, RPL, CMP, CY, Z, BCD}
 use Rattle.memory.specs.Read.{readOf}
-use Rattle.memory.specs.Registers.{bufferWrites, arWrites, incrementAr, incrementIx}
+use Rattle.registers.specs.Registers.{bufferWrites, arWrites, incrementAr, incrementIx}
 use Rattle.memory.specs.Write.{Write, _↤_, writesApplied}
 
 -- Flags and results, which depend on the cells alone.

@@ -82,8 +82,8 @@ pub fn alu_register(
 )
     ensures { λ _. ⌜ now (cells .exit) ≡ writtenBy upd17132 (dataAt (now (cells .entry)) (now (pins .entry)) (now (directions .entry))) (Instruction.AluRegister op r m) ⌝ }
 {
-    let at = memory::register(&*cells, r);
-    let from = memory::address(&*cells, m);
+    let at = registers::register(&*cells, r);
+    let from = registers::address(&*cells, m);
     let b = memory::read(&*cells, pins, directions, from);
     operate(cells, pins, directions, op, at, b);
 }
@@ -98,7 +98,7 @@ pub fn alu_immediate(
 )
     ensures { λ _. ⌜ now (cells .exit) ≡ writtenBy upd17132 (dataAt (now (cells .entry)) (now (pins .entry)) (now (directions .entry))) (Instruction.AluImmediate op m n4) ⌝ }
 {
-    let at = memory::address(&*cells, m);
+    let at = registers::address(&*cells, m);
     operate(cells, pins, directions, op, at, n4);
 }
 
@@ -133,7 +133,7 @@ pub fn skip(
 ) -> bool
     ensures { λ r. ⌜ (now (cells .exit) ≡ writtenBy upd17132 (dataAt (now (cells .entry)) (now (pins .entry)) (now (directions .entry))) (Instruction.Skip op m n4)) × (r ≡ skipsOf upd17132 (dataAt (now (cells .entry)) (now (pins .entry)) (now (directions .entry))) (Instruction.Skip op m n4)) ⌝ }
 {
-    let at = memory::address(&*cells, m);
+    let at = registers::address(&*cells, m);
     let x = memory::read(&*cells, pins, directions, at);
     clear_cmp(cells, op);
     alu::skips(op, x, n4)
@@ -142,7 +142,7 @@ pub fn skip(
 pub fn rorc(cells: &mut [u8; 128], pins: &[u8; 5], directions: &[u8; 5], r: u8)
     ensures { λ _. ⌜ now (cells .exit) ≡ writtenBy upd17132 (dataAt (now (cells .entry)) (now (pins .entry)) (now (directions .entry))) (Instruction.Rorc r) ⌝ }
 {
-    let to = memory::register(&*cells, r);
+    let to = registers::register(&*cells, r);
     let x = memory::read(&*cells, pins, directions, to);
     let carry = memory::is_set(&*cells, Memory::PSW, Memory::CY);
     let o = alu::rotate(x, carry);
@@ -158,8 +158,8 @@ pub fn rorc(cells: &mut [u8; 128], pins: &[u8; 5], directions: &[u8; 5], r: u8)
 pub fn ld(cells: &mut [u8; 128], pins: &[u8; 5], directions: &[u8; 5], r: u8, m: u8)
     ensures { λ _. ⌜ now (cells .exit) ≡ writtenBy upd17132 (dataAt (now (cells .entry)) (now (pins .entry)) (now (directions .entry))) (Instruction.Ld r m) ⌝ }
 {
-    let at = memory::register(&*cells, r);
-    let from = memory::address(&*cells, m);
+    let at = registers::register(&*cells, r);
+    let from = registers::address(&*cells, m);
     let loaded = memory::read(&*cells, pins, directions, from);
     memory::store(cells, at, loaded);
 }
@@ -167,8 +167,8 @@ pub fn ld(cells: &mut [u8; 128], pins: &[u8; 5], directions: &[u8; 5], r: u8, m:
 pub fn st(cells: &mut [u8; 128], pins: &[u8; 5], directions: &[u8; 5], m: u8, r: u8)
     ensures { λ _. ⌜ now (cells .exit) ≡ writtenBy upd17132 (dataAt (now (cells .entry)) (now (pins .entry)) (now (directions .entry))) (Instruction.St m r) ⌝ }
 {
-    let at = memory::address(&*cells, m);
-    let from = memory::register(&*cells, r);
+    let at = registers::address(&*cells, m);
+    let from = registers::register(&*cells, r);
     let stored = memory::read(&*cells, pins, directions, from);
     memory::store(cells, at, stored);
 }
@@ -177,16 +177,16 @@ pub fn st(cells: &mut [u8; 128], pins: &[u8; 5], directions: &[u8; 5], m: u8, r:
 fn pointer(cells: &[u8; 128], pins: &[u8; 5], directions: &[u8; 5], m: u8, r: u8) -> u8
     ensures { λ a. ⌜ a ≡ atPointer upd17132 (dataAt (now (cells .entry)) (now (pins .entry)) (now (directions .entry))) m r ⌝ }
 {
-    let from = memory::register(cells, r);
+    let from = registers::register(cells, r);
     let column = memory::read(cells, pins, directions, from);
-    memory::indirect(cells, m, column)
+    registers::indirect(cells, m, column)
 }
 
 pub fn mov_to(cells: &mut [u8; 128], pins: &[u8; 5], directions: &[u8; 5], r: u8, m: u8)
     ensures { λ _. ⌜ now (cells .exit) ≡ writtenBy upd17132 (dataAt (now (cells .entry)) (now (pins .entry)) (now (directions .entry))) (Instruction.MovToIndirect r m) ⌝ }
 {
     let at = pointer(&*cells, pins, directions, m, r);
-    let from = memory::address(&*cells, m);
+    let from = registers::address(&*cells, m);
     let sent = memory::read(&*cells, pins, directions, from);
     memory::store(cells, at, sent);
 }
@@ -194,7 +194,7 @@ pub fn mov_to(cells: &mut [u8; 128], pins: &[u8; 5], directions: &[u8; 5], r: u8
 pub fn mov_from(cells: &mut [u8; 128], pins: &[u8; 5], directions: &[u8; 5], m: u8, r: u8)
     ensures { λ _. ⌜ now (cells .exit) ≡ writtenBy upd17132 (dataAt (now (cells .entry)) (now (pins .entry)) (now (directions .entry))) (Instruction.MovFromIndirect m r) ⌝ }
 {
-    let at = memory::address(&*cells, m);
+    let at = registers::address(&*cells, m);
     let from = pointer(&*cells, pins, directions, m, r);
     let fetched = memory::read(&*cells, pins, directions, from);
     memory::store(cells, at, fetched);
@@ -203,6 +203,6 @@ pub fn mov_from(cells: &mut [u8; 128], pins: &[u8; 5], directions: &[u8; 5], m: 
 pub fn mov_immediate(cells: &mut [u8; 128], m: u8, n4: u8)
     ensures { λ _. ⌜ ((pins directions : List ℕ) → now (cells .exit) ≡ writtenBy upd17132 (dataAt (now (cells .entry)) pins directions) (Instruction.MovImmediate m n4)) ⌝ }
 {
-    let at = memory::address(&*cells, m);
+    let at = registers::address(&*cells, m);
     memory::store(cells, at, n4);
 }

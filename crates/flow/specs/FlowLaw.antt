@@ -6,7 +6,7 @@ use Prim.Native.Nat.{ℕ}
 use Rattle.isa.specs.declared.Instruction.{Instruction}
 use Rattle.memory.specs.Chip.{Chip}
 use Rattle.cpu.specs.Control.{Transfer, denies, branchOf, callOf, inReach, returnOf, tableOf, standbyOf, onwardOf, controlOf}
-use Rattle.cpu.specs.declared.Control.{Control}
+use Rattle.machine.specs.declared.Control.{Control}
 use Rattle.flow.specs.Flow.{flowOf}
 use Rattle.flow.specs.declared.Flow.{Flow}
 use Rattle.flow.specs.declared.Flow.the-variants.{Onward, Skips, Branches, Calls, Returns, ReturnsSkip, ReadsTable, StandsBy, Barred}

@@ -9,10 +9,10 @@ use lib.Dec.{eqb}
 use Rattle.memory.specs.Chip.{Chip}
 use Rattle.cpu.specs.Answers.{Reply, done, inStandby, refused, replyOf, Step, stepOfStepped}
 use Rattle.cpu.specs.Control.{isStandby}
-use Rattle.cpu.specs.Ranges.{allInRange}
+use Rattle.machine.specs.Ranges.{allInRange}
 use Rattle.cpu.specs.Step.{stepOf, advanceOf, fetchOf, woken, leaving, denied}
-use Rattle.cpu.specs.declared.Input.{Input}
-use Rattle.cpu.specs.declared.Machine.{Machine}
+use Rattle.machine.specs.declared.Input.{Input}
+use Rattle.machine.specs.declared.Machine.{Machine}
 use Rattle.cpu.specs.declared.Stepped.{Stepped}
 
 -- the record where a step is refused

@@ -2,7 +2,7 @@
 -- Assumes nothing.
 use Rattle.cpu.specs.Answers.{Step, Run, replyOf, endOf}
 use Rattle.cpu.specs.declared.Answer.{Answer}
-use Rattle.cpu.specs.declared.Machine.{Machine}
+use Rattle.machine.specs.declared.Machine.{Machine}
 use Rattle.cpu.specs.declared.Report.{Report}
 
 abbrev pub stepOfAnswer : Answer → Machine → Step

@@ -6,9 +6,9 @@ ghost use Rattle.cpu.specs.Answers.{refused, replyOf};
 ghost use Rattle.cpu.specs.InPlace.{runInPlaceOf, stepInPlaceOf};
 ghost use Rattle.host.specs.Lent.{runOfReport, stepOfAnswer};
 use cpu::Answer;
-use cpu::Input;
-use cpu::Machine;
 use cpu::Report;
+use machine::Input;
+use machine::Machine;
 
 // One step, on the lent record.
 pub fn step_in_place(rom: &[u16], machine: &mut Machine, input: Input) -> Answer

@@ -8,8 +8,8 @@ use Prim.Native.Nat.{ℕ}
 use Rattle.memory.specs.Chip.{upd17132}
 use Rattle.cpu.specs.Answers.{Reply, done, inStandby, refused, refusalOf}
 use Rattle.cpu.specs.InPlace.{stepInPlaceOf}
-use Rattle.cpu.specs.Parts.{resetMachine}
-use Rattle.cpu.specs.declared.Machine.{Machine}
+use Rattle.machine.specs.Parts.{resetMachine}
+use Rattle.machine.specs.declared.Machine.{Machine}
 use Rattle.clearance.specs.Calls.{Call, Tally, noCalls, ownInRange, refusalAt, tallyAfter}
 use Rattle.clearance.specs.Calls as calls
 use Rattle.clearance.specs.Safe.{Moment, Allowed, During, Good, Safe}

@@ -12,8 +12,8 @@ use Rattle.cpu.proofs.Inside.{both}
 use Rattle.cpu.specs.Answers.{Reply, done, inStandby, refused, replyOf, endOf, Step, Run, stepOfStepped, runOfRan}
 use Rattle.cpu.specs.Run.{runOf}
 use Rattle.cpu.specs.Step.{stepOf}
-use Rattle.cpu.specs.declared.Input.{Input}
-use Rattle.cpu.specs.declared.Machine.{Machine}
+use Rattle.machine.specs.declared.Input.{Input}
+use Rattle.machine.specs.declared.Machine.{Machine}
 use Rattle.cpu.specs.declared.Ran.{Ran}
 use Rattle.cpu.specs.declared.Stepped.{Stepped}
 use Rattle.host.proofs.Refused.{step-keeps}

@@ -8,9 +8,9 @@ use lib.Dec.{eqb, leb}
 use Rattle.memory.specs.Chip.{upd17132}
 use Rattle.cpu.specs.Answers.{Step, Run}
 use Rattle.cpu.specs.InPlace.{stepInPlaceOf, runInPlaceOf}
-use Rattle.cpu.specs.Parts.{resetMachine}
-use Rattle.cpu.specs.declared.Input.{Input}
-use Rattle.cpu.specs.declared.Machine.{Machine}
+use Rattle.machine.specs.Parts.{resetMachine}
+use Rattle.machine.specs.declared.Input.{Input}
+use Rattle.machine.specs.declared.Machine.{Machine}
 use Rattle.numbers.specs.Numbers.{stepNumber}
 use Rattle.pollwezen.specs.declared.Inputs.{Inputs}
 use Rattle.pollwezen.specs.declared.Numbered.{Numbered}

@@ -68,7 +68,7 @@ pub struct Reported {
 pub extern "C" fn pollwezen_reset() -> Record
     ensures { λ r. ⌜ r ≡ resetRecord ⌝ }
 {
-    record_of(cpu::Machine::reset())
+    record_of(machine::Machine::reset())
 }
 
 // One step on the lent record: 0 for a completed step, 255 for one that stands, else the refusal.

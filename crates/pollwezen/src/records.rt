@@ -7,9 +7,9 @@ use crate::Numbered;
 use crate::Record;
 use crate::Report;
 use crate::Reported;
-use cpu::Control;
-use cpu::Input;
-use cpu::Machine;
+use machine::Control;
+use machine::Input;
+use machine::Machine;
 use memory::Memory;
 
 fn marks_in_range(lent: Record) -> bool

@@ -1,4 +1,3 @@
-pub mod Answers
 pub mod TwoBytes
 pub mod WordLists
 pub mod Scanned

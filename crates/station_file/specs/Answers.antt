@@ -1,6 +1,5 @@
 -- What the reader and the writer answer, in the numbers of document 01, "Refusal numbers".
 -- Assumes nothing.
-use mathlib.Core.Path.{_≡_}
 use mathlib.Core.List.{List}
 use Prim.Native.Nat.{ℕ}
 use Rattle.station_file.specs.Station.{Station}
@@ -44,8 +43,3 @@ stationOf rom sheet inputs = record { rom = rom; sheet = sheet; inputs = inputs 
 -- the writer's answer, with what the lent buffer then holds
 abbrev pub writtenBy : Written → List ℕ → write.Written
 writtenBy r out = record { reply = writeReply r; out = out }
-
--- what stands for each answer loses nothing
-pub record Faithful : Type 0 where
-  pub reads : (a b : Loaded) → readReply a ≡ readReply b → a ≡ b
-  pub writes : (a b : Written) → writeReply a ≡ writeReply b → a ≡ b

@@ -6,3 +6,4 @@ pub mod SectionLaws
 pub mod Whole
 pub mod Faults
 pub mod RoundTrip
+pub mod Faithful

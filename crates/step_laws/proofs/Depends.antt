@@ -15,12 +15,12 @@ use Rattle.isa.specs.declared.SkipOp.the-variants.{Skt, Skf, Ske, Skne, Skge, S
 use Rattle.isa.specs.declared.FixedOp.the-variants.{IncAr, IncIx, Movt, PushAr, PopAr, BrAr, CallAr, Ret, Retsk, Reti, Ei, Di, Nop}
 use Rattle.isa.specs.declared.Instruction.{Instruction}
 use Rattle.isa.specs.declared.Instruction.the-variants.{AluRegister, AluImmediate, Skip, Rorc, Ld, St, MovToIndirect, MovFromIndirect, MovImmediate, Peek, Poke, Get, Put, Br, Call, Stop, Halt, Fixed}
-use Rattle.memory.specs.Address.{rowOf, ixOf, addressOf, registerOf, indirectOf}
+use Rattle.registers.specs.Address.{rowOf, ixOf, addressOf, registerOf, indirectOf}
 use Rattle.memory.specs.Cells.{cellAt, isSet, withFlag}
 use Rattle.memory.specs.Chip.{Chip}
 use Rattle.memory.specs.Names.{AR3, AR2, AR1, AR0, IXH, IXM, IXL, RPL, PSW, CMP, CY, Z, BCD}
 use Rattle.memory.specs.Read.{readOf, portOf}
-use Rattle.memory.specs.Registers.{arOf}
+use Rattle.registers.specs.Registers.{arOf}
 use Rattle.memory.specs.Write.{Write}
 use Rattle.data.specs.Data.{Data, flagsAfter, arithmeticWrites, resultWrites, rotateWrites, skipWrites, aluWrites, writesOf, readsOf, skipsOf}
 use Rattle.step_laws.specs.ReadLaw.{implied, AgreeAt, withOthers, Same, ReadLaw}

@@ -3,3 +3,4 @@ pub mod Written
 pub mod Ranges
 pub mod Runs
 pub mod Depends
+pub mod Faithful

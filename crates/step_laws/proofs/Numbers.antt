@@ -6,16 +6,16 @@ use Rattle.isa.specs.Encode.{encodeOf, fits, wordOf}
 use Rattle.alu.specs.Decimal.{above19, above9, below-10, decimalSum, decimalDifference}
 use Rattle.alu.specs.Difference.{differenceOf}
 use Rattle.alu.specs.Results.{binarySum, binaryDifference, addOf, subtractOf, operateOf, rotateOf, zeroOf}
-use Rattle.memory.specs.Address.{ixOf, addressOf, registerOf, indirectOf}
+use Rattle.registers.specs.Address.{ixOf, addressOf, registerOf, indirectOf}
 use Rattle.memory.specs.Cells.{isSet, withFlag}
 use Rattle.memory.specs.Chip.{masks17132}
 use Rattle.memory.specs.Range.{cellsInRange}
 use Rattle.memory.specs.Read.{mixOf, portOf, readOf}
-use Rattle.memory.specs.Registers.{arOf}
+use Rattle.registers.specs.Registers.{arOf}
 use Rattle.memory.specs.Write.{keptOf, writeOf, writesApplied}
 use Rattle.cpu.specs.Control.{onwardOf, controlOf}
 use Rattle.data.specs.Data.{flagsAfter, arithmeticWrites, resultWrites, rotateWrites, aluWrites, writesOf, skipsOf}
-use Rattle.cpu.specs.Ranges.{controlInRange, machineInRange, inputInRange, romInRange, allInRange}
+use Rattle.machine.specs.Ranges.{controlInRange, machineInRange, inputInRange, romInRange, allInRange}
 use Rattle.cpu.specs.Step.{inBase, runnable, pastTable, writtenOf, executeOf, fetchOf, advanceOf, stepOf}
 use Rattle.step_laws.specs.Cases.{Cases}
 

@@ -17,12 +17,12 @@ use Rattle.isa.specs.declared.Instruction.the-variants.{AluRegister, AluImmedia
 use Rattle.memory.specs.Cells.{isSet}
 use Rattle.memory.specs.Chip.{Chip}
 use Rattle.memory.specs.Names.{PSW, CMP}
-use Rattle.memory.specs.Registers.{arOf}
+use Rattle.registers.specs.Registers.{arOf}
 use Rattle.memory.specs.Write.{Write, _↤_, touches}
 use Rattle.memory.proofs.Writes.{untouched}
 use Rattle.cpu.specs.Control.{top}
 use Rattle.data.specs.Data.{Data, arithmeticWrites, resultWrites, rotateWrites, skipWrites, aluWrites, writesOf}
-use Rattle.cpu.specs.Parts.{cellsOf}
+use Rattle.machine.specs.Parts.{cellsOf}
 use Rattle.cpu.specs.Step.{dataOf, writtenOf}
 use Rattle.step_laws.specs.WrittenCells.{withFlags, arithmetic, operated, tested, writtenCells, WrittenCells, among, Frame}
 

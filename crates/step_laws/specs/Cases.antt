@@ -15,9 +15,9 @@ use Rattle.memory.specs.Chip.{upd17132}
 use Rattle.memory.specs.Names.{IXH, IXM, IXL, RPL, PSW, CY, Z, IXE, BCD, MPE}
 use Rattle.memory.specs.Write.{Write, _↤_}
 use Rattle.cpu.specs.Answers.{Reply, done, Step}
-use Rattle.cpu.specs.Parts.{cellsOf, machineOf, resetControl}
+use Rattle.machine.specs.Parts.{cellsOf, machineOf, resetControl}
 use Rattle.cpu.specs.Step.{stepOf}
-use Rattle.cpu.specs.declared.Input.{Input}
+use Rattle.machine.specs.declared.Input.{Input}
 
 -- a case is a word and its instruction, or an instruction alone in a ROM, with the cells before its step and after it
 pub data Case : Type 0 where

@@ -10,8 +10,8 @@ use Rattle.cpu.specs.Answers.{costOf, refusalOf, Step, Run}
 use Rattle.cpu.specs.Control.{isStandby}
 use Rattle.cpu.specs.Run.{runOf}
 use Rattle.cpu.specs.Step.{stepOf}
-use Rattle.cpu.specs.declared.Input.{Input}
-use Rattle.cpu.specs.declared.Machine.{Machine}
+use Rattle.machine.specs.declared.Input.{Input}
+use Rattle.machine.specs.declared.Machine.{Machine}
 
 -- a step told as a run tells it
 abbrev pub asRun : Step → Run

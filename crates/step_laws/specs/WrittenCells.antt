@@ -20,10 +20,10 @@ use Rattle.memory.specs.Chip.{Chip}
 use Rattle.memory.specs.Names.{AR3, AR2, AR1, AR0, DBF3, DBF2, DBF1, DBF0, IXH, IXM, IXL, PSW, CMP}
 use Rattle.memory.specs.Write.{Write}
 use Rattle.data.specs.Data.{Data, atM, atR, atPointer, writesOf}
-use Rattle.cpu.specs.Parts.{cellsOf}
+use Rattle.machine.specs.Parts.{cellsOf}
 use Rattle.cpu.specs.Step.{dataOf, writtenOf}
-use Rattle.cpu.specs.declared.Input.{Input}
-use Rattle.cpu.specs.declared.Machine.{Machine}
+use Rattle.machine.specs.declared.Input.{Input}
+use Rattle.machine.specs.declared.Machine.{Machine}
 
 module _ (chip : Chip) (d : Data) where
   -- a result and the flags: 7FH once where the result itself goes there

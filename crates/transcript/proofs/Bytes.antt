@@ -6,7 +6,7 @@ use Prim.Native.Nat.{ℕ, suc, _+_, _*_, _≤_}
 use native.Mathlib.Omega.{arith}
 use lib.ListN.{length, getD, take, drop}
 use lib.Seq.{drop-cons, drop-drop, getD-drop}
-use Rattle.cpu.specs.declared.Input.{Input}
+use Rattle.machine.specs.declared.Input.{Input}
 use Rattle.transcript.specs.Inside.{inputAt}
 
 pub five-of : (xs : List ℕ) (at : ℕ) → at + 5 ≤ length xs

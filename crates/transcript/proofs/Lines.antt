@@ -7,8 +7,8 @@ use native.Mathlib.Omega.{arith}
 use lib.ListN.{length, getD}
 use Rattle.memory.specs.Names as names
 use Rattle.text.specs.Hex.{hexDigitOf, hexDigitsOf}
-use Rattle.cpu.specs.Parts.{cellsOf}
-use Rattle.cpu.specs.declared.Machine.{Machine}
+use Rattle.machine.specs.Parts.{cellsOf}
+use Rattle.machine.specs.declared.Machine.{Machine}
 use Rattle.transcript.specs.Text.{space, newline, failText, hex1, hex3, decimal}
 use Rattle.transcript.specs.Inside.{fieldsOf}
 use Rattle.transcript.specs.Transcript.{lineOf}

@@ -12,10 +12,10 @@ use lib.Seq.{sets, drop-drop}
 use borrow.Author.Tests.{eq-eqb, ne-eqb}
 use Rattle.memory.specs.Chip.{upd17132}
 use Rattle.cpu.specs.Answers.{Reply, done, inStandby, refused, Step}
-use Rattle.cpu.specs.Parts.{resetMachine}
+use Rattle.machine.specs.Parts.{resetMachine}
 use Rattle.cpu.specs.Step.{stepOf}
-use Rattle.cpu.specs.declared.Input.{Input}
-use Rattle.cpu.specs.declared.Machine.{Machine}
+use Rattle.machine.specs.declared.Input.{Input}
+use Rattle.machine.specs.declared.Machine.{Machine}
 use Rattle.station_file.specs.Station.{recordBytes}
 use Rattle.transcript.specs.declared.Told.{Told}
 use Rattle.transcript.specs.Inside.{Wrote, inputAt, progressWith, Recorded, upTo, ToldTo}

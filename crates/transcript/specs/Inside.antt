@@ -6,9 +6,9 @@ use Prim.Native.Nat.{ℕ, _+_, _*_, _/_, _≤_}
 use lib.ListN.{getD, length, take, drop}
 use lib.Seq.{sets}
 use Rattle.memory.specs.Names as names
-use Rattle.cpu.specs.Parts.{cellsOf}
-use Rattle.cpu.specs.declared.Input.{Input}
-use Rattle.cpu.specs.declared.Machine.{Machine}
+use Rattle.machine.specs.Parts.{cellsOf}
+use Rattle.machine.specs.declared.Input.{Input}
+use Rattle.machine.specs.declared.Machine.{Machine}
 use Rattle.station_file.specs.Station.{recordBytes}
 use Rattle.transcript.specs.declared.Told.{Told}
 use Rattle.transcript.specs.Text.{space, newline, hex1, hex3}

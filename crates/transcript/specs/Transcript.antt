@@ -9,10 +9,10 @@ use Rattle.text.specs.Hex.{hexDigitsOf}
 use Rattle.memory.specs.Chip.{upd17132}
 use Rattle.memory.specs.Names as names
 use Rattle.cpu.specs.Answers.{Reply, done, inStandby, refused, Step}
-use Rattle.cpu.specs.Parts.{cellsOf, resetMachine}
+use Rattle.machine.specs.Parts.{cellsOf, resetMachine}
 use Rattle.cpu.specs.Step.{stepOf}
-use Rattle.cpu.specs.declared.Input.{Input}
-use Rattle.cpu.specs.declared.Machine.{Machine}
+use Rattle.machine.specs.declared.Input.{Input}
+use Rattle.machine.specs.declared.Machine.{Machine}
 use Rattle.verifier.specs.Verdict as verdict
 use Rattle.station_file.specs.Read.{overlay}
 use Rattle.station_file.specs.Reading as reading

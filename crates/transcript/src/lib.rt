@@ -6,8 +6,8 @@ mod put;
 mod records;
 mod whole;
 
-use cpu::Machine;
 pub use file::transcript;
+use machine::Machine;
 
 // What `transcript` answers.
 pub enum Printed {

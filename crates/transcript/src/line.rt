@@ -8,7 +8,7 @@ ghost use Rattle.transcript.specs.Text.{space, newline, fileText, endTex
 ghost use Rattle.transcript.specs.Transcript.{verdictText};
 use crate::put::put;
 use crate::put::put_decimal;
-use cpu::Machine;
+use machine::Machine;
 use memory::Memory;
 
 // What follows a record's number: PC before, the word, PC after, open levels and PSW.

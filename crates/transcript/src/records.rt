@@ -8,9 +8,9 @@ use crate::Told;
 use crate::inputs::input_at;
 use crate::line::put_line;
 use cpu::Answer;
-use cpu::Input;
-use cpu::Machine;
 use cpu::Refusal;
+use machine::Input;
+use machine::Machine;
 
 fn refusal_number(refusal: Refusal) -> u16
     ensures { λ r. ⌜ r ≡ numberOf refusal ⌝ }

@@ -1,9 +1,9 @@
 // The bench: a ROM, a machine's record in its parts, and the inputs.
 use crate::assemble::encoded;
-use cpu::Control;
-use cpu::Input;
-use cpu::Machine;
 use isa::Instruction;
+use machine::Control;
+use machine::Input;
+use machine::Machine;
 use memory::Memory;
 
 pub struct Bench {

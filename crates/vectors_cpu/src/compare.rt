@@ -1,6 +1,6 @@
 // Whether two records are equal.
-use cpu::Control;
-use cpu::Machine;
+use machine::Control;
+use machine::Machine;
 
 fn same_cells(a: &[u8; 128], b: &[u8; 128]) -> bool {
     let mut same = true;

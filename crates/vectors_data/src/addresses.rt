@@ -24,9 +24,9 @@ fn show_operands(cells: &[u8; 128], r: u8, m: u8) {
     say(b", m ");
     byte(m);
     say(b": r ");
-    byte(memory::register(cells, r));
+    byte(registers::register(cells, r));
     say(b" m ");
-    byte(memory::address(cells, m));
+    byte(registers::address(cells, m));
 }
 
 // An instruction on r and m.
@@ -43,7 +43,7 @@ fn show_direct(label: &[u8], p: Pointers, r: u8, m: u8) {
 // A transfer between m and @r, with a column in r.
 fn show_transfer(label: &[u8], p: Pointers, r: u8, column: u8, m: u8) {
     let before = with_pointers(p);
-    let at = memory::register(&before, r);
+    let at = registers::register(&before, r);
     let cells = memory::write(before, at, column);
     let content = memory::read(&cells, &[0; 5], &[0; 5], at);
     say(label);
@@ -54,7 +54,7 @@ fn show_transfer(label: &[u8], p: Pointers, r: u8, column: u8, m: u8) {
     nibble(content);
     show_operands(&cells, r, m);
     say(b" @r ");
-    byte(memory::indirect(&cells, m, content));
+    byte(registers::indirect(&cells, m, content));
     say(b"\n");
 }
 
@@ -143,7 +143,7 @@ fn show_register(rpl: u8) {
     say(b"RPL ");
     nibble(rpl);
     say(b", r 3: ");
-    byte(memory::register(&cells, 3));
+    byte(registers::register(&cells, 3));
     say(b"\n");
 }
 

@@ -99,12 +99,12 @@ pub fn show_fixed() {
 }
 
 fn show_increment_ar(from: u16) {
-    let cells = memory::write_ar(reset_cells(), from);
-    let next = memory::increment_ar(cells);
+    let cells = registers::write_ar(reset_cells(), from);
+    let next = registers::increment_ar(cells);
     say(b"INC AR from ");
-    word(memory::ar(&cells));
+    word(registers::ar(&cells));
     say(b": ");
-    word(memory::ar(&next));
+    word(registers::ar(&next));
     say(b"\n");
 }
 
@@ -114,13 +114,13 @@ fn show_increment_ix(from: u8, mpe: bool) {
         ixe: false,
         ix: from,
     });
-    let next = memory::increment_ix(cells);
+    let next = registers::increment_ix(cells);
     say(b"INC IX from ");
-    byte(memory::ix(&cells));
+    byte(registers::ix(&cells));
     say(b" with MPE ");
     flag(memory::is_set(&cells, Memory::IXH, Memory::MPE));
     say(b": ");
-    byte(memory::ix(&next));
+    byte(registers::ix(&next));
     say(b" MPE ");
     flag(memory::is_set(&next, Memory::IXH, Memory::MPE));
     say(b"\n");
@@ -131,7 +131,7 @@ fn show_cell(name: &[u8], cells: &[u8; 128], at: u8) {
 }
 
 fn show_buffer(v: u16) {
-    let cells = memory::write_buffer(reset_cells(), v);
+    let cells = registers::write_buffer(reset_cells(), v);
     say(b"data buffer ");
     word(v);
     show_cell(b": 0C ", &cells, 0x0C);
@@ -139,7 +139,7 @@ fn show_buffer(v: u16) {
     show_cell(b" 0E ", &cells, 0x0E);
     show_cell(b" 0F ", &cells, 0x0F);
     say(b", read ");
-    word(memory::buffer(&cells));
+    word(registers::buffer(&cells));
     say(b"\n");
 }
 

@@ -14,7 +14,7 @@ use Rattle.laws.specs.First.{firstFrom, firstFalse}
 use Rattle.laws.proofs.Every.{every-at, every-of, passed, holds}
 use Rattle.laws.proofs.First.{First, first-from, first-is}
 use Rattle.memory.specs.Chip.{Chip}
-use Rattle.cpu.specs.Ranges.{romInRange}
+use Rattle.machine.specs.Ranges.{romInRange}
 use Rattle.clearance.specs.Rules.{ruleHolds, EveryRule}
 use Rattle.verifier.specs.Verdict.{Answer, pass, fail, refused, wordHolds, lowestWord, lowestRule, ruled, verifyOf, Clear, Exactly}
 

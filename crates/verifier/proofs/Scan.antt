@@ -13,7 +13,7 @@ use lib.ListN.{length}
 use Rattle.laws.specs.First.{firstFrom}
 use Rattle.laws.proofs.First.{Clear, First, first-is}
 use Rattle.memory.specs.Chip.{Chip, upd17132}
-use Rattle.cpu.specs.Ranges.{romInRange}
+use Rattle.machine.specs.Ranges.{romInRange}
 use Rattle.flow.specs.declared.Flow.{Flow}
 use Rattle.clearance.specs.Entry.{Entry, reached}
 use Rattle.clearance.specs.Rules.{entryAt, flowAt, ruleOf, ruleHolds}

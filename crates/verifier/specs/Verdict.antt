@@ -11,7 +11,7 @@ use lib.ListN.{length}
 use Rattle.laws.specs.Every.{every}
 use Rattle.laws.specs.First.{firstFalse}
 use Rattle.memory.specs.Chip.{Chip}
-use Rattle.cpu.specs.Ranges.{romInRange}
+use Rattle.machine.specs.Ranges.{romInRange}
 use Rattle.clearance.specs.Rules.{ruleHolds, EveryRule}
 use Rattle.verifier.specs.declared.Verdict.{Verdict}
 use Rattle.verifier.specs.declared.Verdict.the-variants.{Pass, Fail, RomLength, SheetLength}

@@ -5,7 +5,7 @@ use Rattle.pollwezen.proofs.pollwezen_reset.Statement.{statement}
 use Rattle.pollwezen.proofs.pollwezen_reset.Tie as tie
 use Rattle.pollwezen.proofs.pollwezen_reset.Reads as reads
 use Rattle.pollwezen.proofs.pollwezen_reset.Lts as lts
-use Rattle.cpu.proofs.Machine.reset.Reads as reset-reads
+use Rattle.machine.proofs.Machine.reset.Reads as reset-reads
 use Rattle.pollwezen.proofs.records.record_of.Reads as record-of-reads
 
 reset-requires : tie.Need-reset-requires

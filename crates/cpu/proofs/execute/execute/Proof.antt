@@ -1,4 +1,4 @@
-use Rattle.cpu.specs.Parts.{withStack}
+use Rattle.cpu.specs.Inside.{withStack}
 use Rattle.cpu.specs.Step.{executeOf}
 use mathlib.Core.Path.{refl}
 use Rattle.cpu.proofs.Settled.{completes, moves}

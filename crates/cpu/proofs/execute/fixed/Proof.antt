@@ -2,7 +2,7 @@ use mathlib.Core.Path.{_∙_, ap}
 use Prim.Native.Nat.{ℕ}
 use Rattle.memory.specs.Chip.{upd17132}
 use Rattle.cpu.specs.Control.{goes, jump, callOf, pushOf}
-use Rattle.cpu.specs.Parts.{withStack}
+use Rattle.cpu.specs.Inside.{withStack}
 use Rattle.cpu.specs.Step.{executeOf}
 use mathlib.Core.Path.{refl}
 use Rattle.cpu.proofs.Settled.{completes, moves}

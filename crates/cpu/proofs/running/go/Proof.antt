@@ -8,12 +8,12 @@ use borrow.Author.Tests.{not-true, not-false}
 use lib.Dec.{eqb, lit≤}
 use Rattle.memory.specs.Chip.{upd17132}
 use Rattle.cpu.specs.Answers.{Reply}
-use Rattle.cpu.specs.Inside.{inputAt}
-use Rattle.cpu.specs.Parts.{wholeOf, machineOf, cellsOf}
-use Rattle.cpu.specs.Ranges.{allInRange}
-use Rattle.cpu.specs.declared.Control.{Control}
-use Rattle.cpu.specs.declared.Input.{Input}
-use Rattle.cpu.specs.declared.Machine.{Machine}
+use Rattle.cpu.specs.Inside.{inputAt, wholeOf}
+use Rattle.machine.specs.Parts.{machineOf, cellsOf}
+use Rattle.machine.specs.Ranges.{allInRange}
+use Rattle.machine.specs.declared.Control.{Control}
+use Rattle.machine.specs.declared.Input.{Input}
+use Rattle.machine.specs.declared.Machine.{Machine}
 use Rattle.cpu.proofs.ArFits.{ar-fits}
 use Rattle.cpu.proofs.Inside.{all-parts, machine-parts, control-parts}
 use Rattle.cpu.proofs.Loop.{Going, Ends, not-so-many, not-in-range, stays-so, begun, used, stood, refuses, going}

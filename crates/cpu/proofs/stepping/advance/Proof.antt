@@ -6,9 +6,9 @@ use Rattle.isa.specs.Answers.{decodingOf}
 use Rattle.isa.specs.Decode.{decodeOf}
 use Rattle.memory.specs.Chip.{upd17132}
 use Rattle.cpu.specs.Control.{Transfer, onwardOf, marked, onwards}
-use Rattle.cpu.specs.Parts.{machineOf}
+use Rattle.machine.specs.Parts.{machineOf}
 use Rattle.cpu.specs.Step.{completed}
-use Rattle.cpu.specs.declared.Control.{Control}
+use Rattle.machine.specs.declared.Control.{Control}
 use Rattle.cpu.proofs.Phases.{past, passed-over, undecodable, carried-out, past-rom, word-at}
 use Rattle.cpu.proofs.stepping.advance.Statement.{statement}
 use Rattle.cpu.proofs.stepping.advance.Tie as tie

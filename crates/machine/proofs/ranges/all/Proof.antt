@@ -1,0 +1,31 @@
+use borrow.Author.Tests.{lt-ltb, le-ltb, le-leb, lt-leb, eq-eqb, ne-eqb, not-true, not-false}
+use mathlib.Core.Path.{sym, _∙_}
+use Rattle.machine.specs.Ranges.{allInRange}
+use borrow.Author.Needs.{needs}
+use Rattle.machine.proofs.ranges.all.Statement.{statement}
+use Rattle.machine.proofs.ranges.all.Tie as tie
+
+machine-requires : tie.Need-machine-requires
+machine-requires c κs = search needs
+
+returns : tie.Need-returns
+unfolding allInRange
+returns c = simp (sym (c .before .machine .ensures) ∙ not-true _ (c .if1 .taken))
+
+input-requires : tie.Need-input-requires
+input-requires c κs = search needs
+
+returns-2 : tie.Need-returns-2
+unfolding allInRange
+returns-2 c = simp (sym (c .before .before .before .machine .ensures) ∙ not-false _ (c .before .before .if1 .left), sym (c .before .input .ensures) ∙ not-true _ (c .if2 .taken))
+
+rom-requires : tie.Need-rom-requires
+rom-requires c κs = search needs
+
+returns-3 : tie.Need-returns-3
+unfolding allInRange
+returns-3 c = simp (sym (c .before .before .before .before .machine .ensures) ∙ not-false _ (c .before .before .before .if1 .left), sym (c .before .before .input .ensures) ∙ not-false _ (c .before .if2 .left)) (c .rom .ensures)
+
+pub all-spec : {M : Type 1} → statement M
+all-spec =
+    tie.close (tie.spec machine-requires returns input-requires returns-2 rom-requires returns-3)

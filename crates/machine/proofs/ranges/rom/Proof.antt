@@ -1,0 +1,18 @@
+use borrow.Author.Tests.{lt-ltb, le-ltb, le-leb, lt-leb, eq-eqb, ne-eqb, not-true, not-false}
+use mathlib.Core.Path.{sym, _∙_}
+use Rattle.machine.specs.Ranges.{romInRange}
+use lib.ListN.{length}
+use native.Mathlib.Omega.{arith}
+use Rattle.machine.proofs.ranges.rom.Statement.{statement}
+use Rattle.machine.proofs.ranges.rom.Tie as tie
+
+returns : tie.Need-returns
+unfolding romInRange
+returns c = simp (c .if1 .taken)
+
+returns-2 : tie.Need-returns-2
+unfolding romInRange
+returns-2 c = rw (lt-ltb 0 (length (c .before .args .words .now)) (omega arith))
+
+pub rom-spec : {M : Type 1} → statement M
+rom-spec = tie.close (tie.spec returns returns-2)

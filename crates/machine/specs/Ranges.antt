@@ -1,0 +1,49 @@
+-- What is in range: document 01, refusal 1.
+-- Assumes nothing.
+use mathlib.Core.Bool.{Bool, _&&_, cond}
+use mathlib.Core.List.{List}
+use Prim.Native.Nat.{ℕ, _^_}
+use lib.Dec.{eqb, ltb, leb}
+use lib.ListN.{getD, length}
+use Rattle.laws.specs.Every.{every}
+use Rattle.memory.specs.Chip.{Chip}
+use Rattle.memory.specs.Range.{cellsInRange}
+use Rattle.machine.specs.declared.Control.{Control}
+use Rattle.machine.specs.declared.Input.{Input}
+use Rattle.machine.specs.declared.Machine.{Machine}
+use Rattle.machine.specs.Parts.{cellsOf}
+
+-- the record has five places for stacked addresses, whatever the chip
+abbrev pub places : ℕ
+places = 5
+
+-- no stacked address too large, and a closed level is 0
+abbrev pub levelInRange : Chip → Control → ℕ → Bool
+levelInRange chip c k = cond (ltb k (c .levels)) (ltb (getD (c .stack) k 0) (2 ^ chip .pcBits)) (eqb (getD (c .stack) k 0) 0)
+
+-- PC not too large, not too many open levels, and each place
+unfoldable pub controlInRange : Chip → Control → Bool
+controlInRange chip c =
+    ltb (c .pc) (2 ^ chip .pcBits) && (leb (c .levels) (chip .levels) && every (levelInRange chip c) places)
+
+unfoldable pub machineInRange : Chip → Machine → Bool
+machineInRange chip m = cellsInRange chip (cellsOf m) && controlInRange chip (m .control)
+
+abbrev pub nibbles : List ℕ → Bool
+nibbles xs = every (λ (k : ℕ). ltb (getD xs k 0) 16) 5
+
+-- five pins, five directions and a release bit
+unfoldable pub inputInRange : Input → Bool
+inputInRange i = nibbles (i .pins) && (nibbles (i .directions) && ltb (i .release) 2)
+
+-- 1 to so many words
+unfoldable pub romInRange : Chip → List ℕ → Bool
+romInRange chip rom = ltb 0 (length rom) && leb (length rom) (chip .words)
+
+-- all that a step tests for refusal 1
+unfoldable pub allInRange : Chip → List ℕ → Machine → Input → Bool
+allInRange chip rom m i = machineInRange chip m && (inputInRange i && romInRange chip rom)
+
+-- a run tests its budget too
+unfoldable pub budgetInRange : ℕ → Bool
+budgetInRange budget = leb budget 65535

@@ -1,0 +1,111 @@
+// What is in range: refusal 1.
+ghost use mathlib.Core.Path.{_≡_};
+ghost use mathlib.Core.Bool.{cond};
+ghost use lib.Dec.{eqb, ltb};
+ghost use Rattle.memory.specs.Chip.{upd17132};
+ghost use Rattle.machine.specs.Ranges.{nibbles, controlInRange, machineInRange, inputInRange, romInRange, allInRange};
+use crate::Control;
+use crate::Input;
+use crate::Machine;
+
+// Five nibbles.
+fn nibbles(xs: [u8; 5]) -> bool
+    ensures { λ r. ⌜ r ≡ nibbles xs ⌝ }
+{
+    if 16 <= xs[4] {
+        return false;
+    }
+    if 16 <= xs[3] {
+        return false;
+    }
+    if 16 <= xs[2] {
+        return false;
+    }
+    if 16 <= xs[1] {
+        return false;
+    }
+    xs[0] < 16
+}
+
+// An open level holds an address, and a closed one 0.
+fn level(k: u8, levels: u8, address: u16) -> bool
+    ensures { λ r. ⌜ r ≡ cond (ltb k levels) (ltb address 1024) (eqb address 0) ⌝ }
+{
+    if k < levels {
+        return address < 1024;
+    }
+    address == 0
+}
+
+fn control(c: Control) -> bool
+    ensures { λ r. ⌜ r ≡ controlInRange upd17132 c ⌝ }
+{
+    if 1024 <= c.pc {
+        return false;
+    }
+    let levels = c.levels;
+    if 5 < levels {
+        return false;
+    }
+    let stack = c.stack;
+    if !level(4, levels, stack[4]) {
+        return false;
+    }
+    if !level(3, levels, stack[3]) {
+        return false;
+    }
+    if !level(2, levels, stack[2]) {
+        return false;
+    }
+    if !level(1, levels, stack[1]) {
+        return false;
+    }
+    level(0, levels, stack[0])
+}
+
+fn machine(m: Machine) -> bool
+    ensures { λ r. ⌜ r ≡ machineInRange upd17132 m ⌝ }
+{
+    let memory = m.memory;
+    let cells = memory.cells;
+    if !memory::in_range(&cells) {
+        return false;
+    }
+    control(m.control)
+}
+
+fn input(i: Input) -> bool
+    ensures { λ r. ⌜ r ≡ inputInRange i ⌝ }
+{
+    let pins = i.pins;
+    if !nibbles(pins) {
+        return false;
+    }
+    let directions = i.directions;
+    if !nibbles(directions) {
+        return false;
+    }
+    i.release < 2
+}
+
+fn rom(words: &[u16]) -> bool
+    ensures { λ r. ⌜ r ≡ romInRange upd17132 (now (words .entry)) ⌝ }
+{
+    if words.len() == 0 {
+        return false;
+    }
+    words.len() <= 1024
+}
+
+// All that a step tests for refusal 1.
+pub fn all(words: &[u16], m: Machine, i: Input) -> bool
+    ensures { λ r. ⌜ r ≡ allInRange upd17132 (now (words .entry)) m i ⌝ }
+{
+    if !machine(m) {
+        return false;
+    }
+    if !input(i) {
+        return false;
+    }
+    rom(words)
+}
