@@ -1,5 +1,5 @@
 /* Pollwezen: the uPD17132 for a host program in C. Link libpollwezen.a, which `rt staticlib pollwezen` writes.
- * The contracts are in crates/pollwezen/src/lib.rt, the definitions in crates/pollwezen/specs/Exports.antt and
+ * The contracts are in crates/pollwezen/src/lib.rt, the definitions in crates/records/specs/Records.antt and
  * crates/replies/specs/Replies.antt.
  * The caller keeps what C asks of any call: pointers (not NULL, even to none) to as many elements as said, and a lent record or
  * buffer that no other argument overlaps. Whatever stands in them is answered or refused. No buffer is written past its length,

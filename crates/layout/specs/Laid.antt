@@ -4,9 +4,9 @@
 use mathlib.Core.List.{List, [], _∷_}
 use Prim.Native.Nat.{ℕ, _-_}
 use lib.ListN.{replicate, set}
-use Rattle.pollwezen.specs.declared.Inputs.{Inputs}
-use Rattle.pollwezen.specs.declared.Record.{Record}
-use Rattle.pollwezen.specs.declared.Report.{Report}
+use Rattle.records.specs.declared.Inputs.{Inputs}
+use Rattle.records.specs.declared.Record.{Record}
+use Rattle.records.specs.declared.Report.{Report}
 use Rattle.replies.specs.declared.Checked.{Checked}
 use Rattle.replies.specs.declared.Counts.{Counts}
 use Rattle.replies.specs.declared.Output.{Output}

@@ -3,9 +3,9 @@
 ghost use mathlib.Core.Path.{_≡_};
 ghost use Prim.Native.Nat.{_≤_};
 ghost use Rattle.layout.specs.Laid.{checkOf, codeOf, countOf, inputOf, laidOf, listingOf, outputOf, recordOf, reportOf};
-use pollwezen::Inputs;
-use pollwezen::Record;
-use pollwezen::Report;
+use records::Inputs;
+use records::Record;
+use records::Report;
 use replies::Checked;
 use replies::Counts;
 use replies::Output;

@@ -5,7 +5,7 @@ use mathlib.Core.List.{[], _∷_}
 use Prim.Native.Nat.{ℕ, _≤_, _-_, _<_}
 use native.Mathlib.Omega.{arith}
 use lib.ListN.{getD}
-use Rattle.cpu.proofs.Answers.{faithful as told}
+use Rattle.step_laws.proofs.Faithful.{faithful as told}
 use Rattle.cpu.specs.Answers.{refused, numberOf, replyOf}
 use Rattle.cpu.specs.declared.Answer.{Answer}
 use Rattle.cpu.specs.declared.Answer.the-variants.{Done, Standby, Refused}

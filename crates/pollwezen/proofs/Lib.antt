@@ -1,4 +1,2 @@
 pub mod Checks
-pub mod Lent
-pub mod EntryLists
 pub mod Verified

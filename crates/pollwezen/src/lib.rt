@@ -1,6 +1,4 @@
 // The C interface, include/pollwezen.h. Records and inputs are plain structs of unsigned integers, and answers are numbers.
-mod records;
-
 ghost use mathlib.Core.Path.{_≡_};
 ghost use mathlib.Core.Logic.{_↔_};
 ghost use Rattle.isa.specs.Decode.{decodeOf};
@@ -14,61 +12,23 @@ ghost use Rattle.station_file.specs.Station.{form1};
 ghost use Rattle.station_file.specs.Write.{writeOf};
 ghost use Rattle.transcript.specs.Transcript.{printOf};
 ghost use Rattle.replies.specs.Replies.{checkedOf, countsOf, outputOf, printedOf};
-ghost use Rattle.pollwezen.specs.SafeEntries.{SafeEntries};
-ghost use Rattle.pollwezen.specs.Exports.{numbered, reported, resetRecord, runRecordOf, stepRecordOf};
-use records::ran;
-use records::record_of;
-use records::stepped;
+ghost use Rattle.records.specs.SafeEntries.{SafeEntries};
+ghost use Rattle.records.specs.Records.{numbered, reported, resetRecord, runRecordOf, stepRecordOf};
+use records::Inputs;
+use records::Record;
+use records::Report;
 use replies::Checked;
 use replies::Counts;
 use replies::Output;
 use rows::Coded;
 use rows::Listed;
 
-// The machine's record as a host holds it. Its marks are bytes, in range at 0 and 1.
-#[repr(C)]
-pub struct Record {
-    pub cells: [u8; 128],
-    pub pc: u16,
-    pub stack: [u16; 5],
-    pub levels: u8,
-    pub skip: u8,
-    pub standby: u8,
-}
-
-// The input record.
-#[repr(C)]
-pub struct Inputs {
-    pub pins: [u8; 5],
-    pub directions: [u8; 5],
-    pub release: u8,
-}
-
-// A step's number, and the record after it.
-pub struct Numbered {
-    pub number: u8,
-    pub left: Record,
-}
-
-// A run's steps, and its refusal or 0.
-#[repr(C)]
-pub struct Report {
-    pub steps: u32,
-    pub number: u8,
-}
-
-// The same, and the record after the run.
-pub struct Reported {
-    pub report: Report,
-    pub left: Record,
-}
-
 // The reset record.
 #[no_mangle]
 pub extern "C" fn pollwezen_reset() -> Record
     ensures { λ r. ⌜ r ≡ resetRecord ⌝ }
 {
-    record_of(machine::Machine::reset())
+    records::record_of(machine::Machine::reset())
 }
 
 // One step on the lent record: 0 for a completed step, 255 for one that stands, else the refusal.
@@ -77,7 +37,7 @@ pub extern "C" fn pollwezen_step(rom: &[u16], lent: &mut Record, input: Inputs) 
     ensures { λ r. ⌜ (numbered r (now (lent .exit)) ≡ stepRecordOf (now (rom .entry)) input (now (lent .entry)))
         × ((r ≡ 0 → ⊥) → (r ≡ 255 → ⊥) → now (lent .exit) ≡ now (lent .entry)) ⌝ }
 {
-    let s = stepped(rom, *lent, input);
+    let s = records::stepped(rom, *lent, input);
     *lent = s.left;
     s.number
 }
@@ -92,7 +52,7 @@ pub extern "C" fn pollwezen_run(
 ) -> Report
     ensures { λ r. ⌜ reported (r .steps) (r .number) (now (lent .exit)) ≡ runRecordOf (now (rom .entry)) input budget (now (lent .entry)) ⌝ }
 {
-    let r = ran(rom, *lent, input, budget);
+    let r = records::ran(rom, *lent, input, budget);
     *lent = r.left;
     r.report
 }

@@ -1,12 +1,11 @@
 use mathlib.Core.Path.{_∙_, ap}
-use Rattle.pollwezen.specs.Exports.{recordOf}
+use Rattle.records.specs.Records.{recordOf}
 use borrow.Author.Needs.{needs}
 use Rattle.pollwezen.proofs.pollwezen_reset.Statement.{statement}
 use Rattle.pollwezen.proofs.pollwezen_reset.Tie as tie
 use Rattle.pollwezen.proofs.pollwezen_reset.Reads as reads
 use Rattle.pollwezen.proofs.pollwezen_reset.Lts as lts
 use Rattle.machine.proofs.Machine.reset.Reads as reset-reads
-use Rattle.pollwezen.proofs.records.record_of.Reads as record-of-reads
 
 reset-requires : tie.Need-reset-requires
 reset-requires c κs = search needs

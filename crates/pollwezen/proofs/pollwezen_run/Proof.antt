@@ -40,23 +40,23 @@ use denote.Triple.Clauses.{ensured, lasts}
 use denote.Triple.Table.{entered, cited}
 use denote.Triple.Walked.{says, Stays, stay-ref, stay-none, stay-none-slice, walkOf, goes-ref, goes-none, goes-none-slice, Walks, ends-at, walked, walk-meets}
 use denote.Exit.{yes}
-use Rattle.pollwezen.specs.Exports.{runRecordOf}
-use Rattle.pollwezen.specs.declared.Record.{Record}
-use Rattle.pollwezen.specs.declared.Inputs.{Inputs}
-use Rattle.pollwezen.specs.declared.Reported.{Reported}
-use Rattle.pollwezen.specs.declared.Report.{Report}
-use Rattle.pollwezen.proofs.Record as R
-use Rattle.pollwezen.proofs.Record.Laws as R′
-use Rattle.pollwezen.proofs.Inputs as I
-use Rattle.pollwezen.proofs.Inputs.Laws as I′
-use Rattle.pollwezen.proofs.Reported as S
-use Rattle.pollwezen.proofs.Reported.Laws as S′
-use Rattle.pollwezen.proofs.Report as E
-use Rattle.pollwezen.proofs.Report.Laws as E′
-use Rattle.pollwezen.proofs.records.ran as core
-use Rattle.pollwezen.proofs.records.ran.Symbol as core-def
-use Rattle.pollwezen.proofs.records.ran.Symbol.{name as #ran}
-use Rattle.pollwezen.proofs.records.ran.Met as core-thm
+use Rattle.records.specs.Records.{runRecordOf}
+use Rattle.records.specs.declared.Record.{Record}
+use Rattle.records.specs.declared.Inputs.{Inputs}
+use Rattle.records.specs.declared.Reported.{Reported}
+use Rattle.records.specs.declared.Report.{Report}
+use Rattle.records.proofs.Record as R
+use Rattle.records.proofs.Record.Laws as R′
+use Rattle.records.proofs.Inputs as I
+use Rattle.records.proofs.Inputs.Laws as I′
+use Rattle.records.proofs.Reported as S
+use Rattle.records.proofs.Reported.Laws as S′
+use Rattle.records.proofs.Report as E
+use Rattle.records.proofs.Report.Laws as E′
+use Rattle.records.proofs.ran as core
+use Rattle.records.proofs.ran.Symbol as core-def
+use Rattle.records.proofs.ran.Symbol.{name as #ran}
+use Rattle.records.proofs.ran.Met as core-thm
 use Rattle.pollwezen.proofs.pollwezen_run.Key.{name as #pollwezen-run}
 use Rattle.pollwezen.proofs.pollwezen_run as pr
 use Rattle.pollwezen.proofs.pollwezen_run.Statement as stated
@@ -182,4 +182,4 @@ pollwezen-run-spec 𝓤 H 𝓜 𝓖 𝓡 =
     entered 𝓤 H (tripleOf 𝓤 H (𝓖 .A) pr.signature (pr.spec 𝓤 H (𝓖 .A) (𝓜 .mem) (𝓡 .run)))
     (tables 𝓤 H 𝓜 𝓡 code.env .C) (tables 𝓤 H 𝓜 𝓡 code.env .Λ) #pollwezen-run code.function (code.unfolded 𝓤 H 𝓜 𝓡)
     (pr-meets 𝓤 H (𝓖 .A) (givenOf 𝓤 H 𝓜 𝓖) (𝓜 .mem) (𝓡 .run) (tablesOf 𝓤 H 𝓜 (tables 𝓤 H 𝓜 𝓡 code.env))
-    (cited 𝓤 H (RunC 𝓤 H (𝓖 .A) (𝓜 .mem) (𝓡 .run)) 𝓜 𝓡 code.env #ran core-def.routine code.calls-pollwezen·records·ran (core-thm.met 𝓤 H 𝓜 𝓖 𝓡)))
+    (cited 𝓤 H (RunC 𝓤 H (𝓖 .A) (𝓜 .mem) (𝓡 .run)) 𝓜 𝓡 code.env #ran core-def.routine code.calls-records·ran (core-thm.met 𝓤 H 𝓜 𝓖 𝓡)))

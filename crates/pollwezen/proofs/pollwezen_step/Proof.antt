@@ -42,21 +42,21 @@ use denote.Triple.Clauses.{ensured, lasts}
 use denote.Triple.Table.{entered, cited}
 use denote.Triple.Walked.{says, Stays, stay-ref, stay-none, stay-none-slice, walkOf, goes-ref, goes-none, goes-none-slice, Walks, ends-at, walked, walk-meets}
 use denote.Exit.{yes}
-use Rattle.pollwezen.specs.Exports.{stepRecordOf}
-use Rattle.pollwezen.specs.declared.Record.{Record}
-use Rattle.pollwezen.specs.declared.Inputs.{Inputs}
-use Rattle.pollwezen.specs.declared.Numbered.{Numbered}
-use Rattle.pollwezen.proofs.Record as R
-use Rattle.pollwezen.proofs.Record.Laws as R′
-use Rattle.pollwezen.proofs.Inputs as I
-use Rattle.pollwezen.proofs.Inputs.Laws as I′
-use Rattle.pollwezen.proofs.Numbered as S
-use Rattle.pollwezen.proofs.Numbered.Laws as S′
-use Rattle.pollwezen.proofs.Lent.{kept}
-use Rattle.pollwezen.proofs.records.stepped as step
-use Rattle.pollwezen.proofs.records.stepped.Symbol as step-def
-use Rattle.pollwezen.proofs.records.stepped.Symbol.{name as #stepped}
-use Rattle.pollwezen.proofs.records.stepped.Met as step-thm
+use Rattle.records.specs.Records.{stepRecordOf}
+use Rattle.records.specs.declared.Record.{Record}
+use Rattle.records.specs.declared.Inputs.{Inputs}
+use Rattle.records.specs.declared.Numbered.{Numbered}
+use Rattle.records.proofs.Record as R
+use Rattle.records.proofs.Record.Laws as R′
+use Rattle.records.proofs.Inputs as I
+use Rattle.records.proofs.Inputs.Laws as I′
+use Rattle.records.proofs.Numbered as S
+use Rattle.records.proofs.Numbered.Laws as S′
+use Rattle.records.proofs.Lent.{kept}
+use Rattle.records.proofs.stepped as step
+use Rattle.records.proofs.stepped.Symbol as step-def
+use Rattle.records.proofs.stepped.Symbol.{name as #stepped}
+use Rattle.records.proofs.stepped.Met as step-thm
 use Rattle.pollwezen.proofs.pollwezen_step.Key.{name as #pollwezen-step}
 use Rattle.pollwezen.proofs.pollwezen_step as ms
 use Rattle.pollwezen.proofs.pollwezen_step.Statement as stated
@@ -179,4 +179,4 @@ pollwezen-step-spec 𝓤 H 𝓜 𝓖 𝓡 =
     entered 𝓤 H (tripleOf 𝓤 H (𝓖 .A) ms.signature (ms.spec 𝓤 H (𝓖 .A) (𝓜 .mem) (𝓡 .run)))
     (tables 𝓤 H 𝓜 𝓡 code.env .C) (tables 𝓤 H 𝓜 𝓡 code.env .Λ) #pollwezen-step code.function (code.unfolded 𝓤 H 𝓜 𝓡)
     (ms-meets 𝓤 H (𝓖 .A) (givenOf 𝓤 H 𝓜 𝓖) (𝓜 .mem) (𝓡 .run) (tablesOf 𝓤 H 𝓜 (tables 𝓤 H 𝓜 𝓡 code.env))
-    (cited 𝓤 H (StepC 𝓤 H (𝓖 .A) (𝓜 .mem) (𝓡 .run)) 𝓜 𝓡 code.env #stepped step-def.routine code.calls-pollwezen·records·stepped (step-thm.met 𝓤 H 𝓜 𝓖 𝓡)))
+    (cited 𝓤 H (StepC 𝓤 H (𝓖 .A) (𝓜 .mem) (𝓡 .run)) 𝓜 𝓡 code.env #stepped step-def.routine code.calls-records·stepped (step-thm.met 𝓤 H 𝓜 𝓖 𝓡)))

@@ -1,16 +1,14 @@
-// From a host's record to the machine's and back, and the step and the run by value over them.
+// The step and the run by value. A mark above 1 is refused with 1.
 ghost use mathlib.Core.Path.{_≡_};
-ghost use mathlib.Core.Bool.{cond};
-ghost use Rattle.pollwezen.specs.Exports.{inputOf, machineOf, marksInRange, recordOf, runRecordOf, stepRecordOf};
+ghost use Rattle.records.specs.Records.{marksInRange, runRecordOf, stepRecordOf};
 use crate::Inputs;
 use crate::Numbered;
 use crate::Record;
 use crate::Report;
 use crate::Reported;
-use machine::Control;
-use machine::Input;
-use machine::Machine;
-use memory::Memory;
+use crate::convert::input_of;
+use crate::convert::machine_of;
+use crate::convert::record_of;
 
 fn marks_in_range(lent: Record) -> bool
     ensures { λ r. ⌜ r ≡ marksInRange lent ⌝ }
@@ -19,58 +17,6 @@ fn marks_in_range(lent: Record) -> bool
         return false;
     }
     lent.standby <= 1
-}
-
-fn machine_of(lent: Record) -> Machine
-    ensures { λ r. ⌜ r ≡ machineOf lent ⌝ }
-{
-    let cells = lent.cells;
-    let stack = lent.stack;
-    Machine {
-        memory: Memory { cells: cells },
-        control: Control {
-            pc: lent.pc,
-            stack: stack,
-            levels: lent.levels,
-            skip: lent.skip == 1,
-            standby: lent.standby == 1,
-        },
-    }
-}
-
-fn byte(mark: bool) -> u8
-    ensures { λ r. ⌜ r ≡ cond mark 1 0 ⌝ }
-{
-    if mark { 1 } else { 0 }
-}
-
-pub fn record_of(machine: Machine) -> Record
-    ensures { λ r. ⌜ r ≡ recordOf machine ⌝ }
-{
-    let memory = machine.memory;
-    let control = machine.control;
-    let cells = memory.cells;
-    let stack = control.stack;
-    Record {
-        cells: cells,
-        pc: control.pc,
-        stack: stack,
-        levels: control.levels,
-        skip: byte(control.skip),
-        standby: byte(control.standby),
-    }
-}
-
-fn input_of(input: Inputs) -> Input
-    ensures { λ r. ⌜ r ≡ inputOf input ⌝ }
-{
-    let pins = input.pins;
-    let directions = input.directions;
-    Input {
-        pins: pins,
-        directions: directions,
-        release: input.release,
-    }
 }
 
 // The step by value.

@@ -18,11 +18,11 @@ use Rattle.cpu.specs.declared.Ran.{Ran}
 use Rattle.cpu.specs.declared.Stepped.{Stepped}
 use Rattle.host.proofs.Refused.{step-keeps}
 use Rattle.numbers.specs.Numbers.{stepNumber}
-use Rattle.pollwezen.specs.Exports.{inputOf, machineOf, marksInRange, recordOf, numbered, reported, ofStep, ofRun, stepRecordOf, runRecordOf, Faithful, Follows}
-use Rattle.pollwezen.specs.declared.Inputs.{Inputs}
-use Rattle.pollwezen.specs.declared.Numbered.{Numbered}
-use Rattle.pollwezen.specs.declared.Record.{Record}
-use Rattle.pollwezen.specs.declared.Reported.{Reported}
+use Rattle.records.specs.Records.{inputOf, machineOf, marksInRange, recordOf, numbered, reported, ofStep, ofRun, stepRecordOf, runRecordOf, Faithful, Follows}
+use Rattle.records.specs.declared.Inputs.{Inputs}
+use Rattle.records.specs.declared.Numbered.{Numbered}
+use Rattle.records.specs.declared.Record.{Record}
+use Rattle.records.specs.declared.Reported.{Reported}
 
 module _ (rom : List ℕ) (i : Inputs) (r : Record) where
   pub step-refused : marksInRange r ≡ false → numbered 1 r ≡ stepRecordOf rom i r

@@ -12,10 +12,10 @@ use Rattle.machine.specs.Parts.{resetMachine}
 use Rattle.machine.specs.declared.Input.{Input}
 use Rattle.machine.specs.declared.Machine.{Machine}
 use Rattle.numbers.specs.Numbers.{stepNumber}
-use Rattle.pollwezen.specs.declared.Inputs.{Inputs}
-use Rattle.pollwezen.specs.declared.Numbered.{Numbered}
-use Rattle.pollwezen.specs.declared.Record.{Record}
-use Rattle.pollwezen.specs.declared.Reported.{Reported}
+use Rattle.records.specs.declared.Inputs.{Inputs}
+use Rattle.records.specs.declared.Numbered.{Numbered}
+use Rattle.records.specs.declared.Record.{Record}
+use Rattle.records.specs.declared.Reported.{Reported}
 
 -- the marks are 0 or 1
 unfoldable pub marksInRange : Record → Bool

@@ -1,2 +1,2 @@
-pub mod Exports
+pub mod Records
 pub mod SafeEntries

@@ -14,12 +14,12 @@ use Rattle.clearance.specs.Calls.{Call, Tally, noCalls, ownInRange, refusalAt, 
 use Rattle.clearance.specs.Calls as calls
 use Rattle.clearance.specs.Safe.{Moment, Allowed, During, Good, Safe}
 use Rattle.numbers.specs.Numbers.{stepNumber}
-use Rattle.pollwezen.specs.Exports.{machineOf, recordOf, inputOf, Faithful, Follows}
-use Rattle.pollwezen.specs.SafeEntries.{EntryCall, step, run, inPlace, refusalIn, refusalBy, leftBy, AllowedEntry, GoodEntries, SafeEntries}
-use Rattle.pollwezen.specs.declared.Numbered.{Numbered}
-use Rattle.pollwezen.specs.declared.Record.{Record}
-use Rattle.pollwezen.specs.declared.Reported.{Reported}
-use Rattle.pollwezen.proofs.Lent.{faithful, follows}
+use Rattle.records.specs.Records.{machineOf, recordOf, inputOf, Faithful, Follows}
+use Rattle.records.specs.SafeEntries.{EntryCall, step, run, inPlace, refusalIn, refusalBy, leftBy, AllowedEntry, GoodEntries, SafeEntries}
+use Rattle.records.specs.declared.Numbered.{Numbered}
+use Rattle.records.specs.declared.Record.{Record}
+use Rattle.records.specs.declared.Reported.{Reported}
+use Rattle.records.proofs.Lent.{faithful, follows}
 
 inPlaces : List EntryCall → List Call
 inPlaces [] = []

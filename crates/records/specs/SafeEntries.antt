@@ -10,9 +10,9 @@ use lib.Dec.{eqb}
 use Rattle.memory.specs.Chip.{upd17132}
 use Rattle.clearance.specs.Calls.{Call, stepInPlace, runInPlace, ownInRange, Tally, noCalls, tallyAfter}
 use Rattle.clearance.specs.Safe.{Moment, During}
-use Rattle.pollwezen.specs.Exports.{machineOf, inputOf, resetRecord, stepRecordOf, runRecordOf}
-use Rattle.pollwezen.specs.declared.Inputs.{Inputs}
-use Rattle.pollwezen.specs.declared.Record.{Record}
+use Rattle.records.specs.Records.{machineOf, inputOf, resetRecord, stepRecordOf, runRecordOf}
+use Rattle.records.specs.declared.Inputs.{Inputs}
+use Rattle.records.specs.declared.Record.{Record}
 
 -- a call of an entry, with its own inputs and budget
 pub data EntryCall : Type 0 where
