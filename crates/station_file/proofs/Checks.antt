@@ -14,11 +14,10 @@ use Rattle.station_file.specs.Reading.{Reading, got, refused, andThen, f
 use Rattle.station_file.specs.Station.{Form, inputByte, romCount, sheetCount}
 use Rattle.station_file.specs.Write.{everyAt, faultOf}
 use Rattle.station_file.specs.Answers.{faultNumber, stationOf}
-use Rattle.station_file.specs.Inside.{scanned}
+use Rattle.station_file.specs.Inside.{scanned, byteField}
 use Rattle.station_file.specs.declared.Fault.{Fault}
 use Rattle.station_file.specs.declared.Checked.{Checked}
 use Rattle.station_file.specs.declared.Checked.the-variants as checked
-use Rattle.station_file.proofs.Scanned.{byteField}
 
 -- a scan of a whole list
 scan-cons : (p e : Bool) (x : ℕ) (xs : List ℕ) (more : List ℕ → Reading (List ℕ)) → more xs ≡ cond e (got xs []) (refused 23)

@@ -3,20 +3,16 @@
 use mathlib.Core.Path.{_≡_, _∙_, refl, sym, ap}
 use mathlib.Core.Bool.{Bool, true, false}
 use mathlib.Core.List.{List, [], _∷_, _++_, append-assoc, append-nil}
-use Prim.Native.Nat.{ℕ, suc, _+_, _-_, _<_, _≤_}
-use native.Mathlib.Nat.{sub-self, sub-zero}
+use Prim.Native.Nat.{ℕ, zero, suc, _+_, _-_, _%_, _<_, _≤_}
+use native.Mathlib.Nat.{add-zero, sub-self, sub-zero}
+use borrow.Author.Tests.{lt-ltb, ne-eqb}
 use native.Mathlib.Numerals.{add-one}
 use native.Mathlib.Omega.{arith}
 use lib.ListN.{length, take, drop, getD, length-drop, drop-of-length-le}
 use lib.Seq.{getD-drop, drop-drop, drop-cons, take-suc}
-use Rattle.station_file.specs.Reading.{Reading, got, refused, andThen, tested, byte, fields}
-
-abbrev pub byteField : (ℕ → ℕ → Bool) → ℕ → List ℕ → Reading ℕ
-byteField ok k xs = tested (ok k) 23 (byte xs)
-
--- what was read before stands in front
-abbrev pub prepend : List ℕ → Reading (List ℕ) → Reading (List ℕ)
-prepend vs r = andThen r (λ (ws : List ℕ) (last : List ℕ). got (vs ++ ws) last)
+use Rattle.station_file.specs.Reading.{Reading, got, refused, andThen, fields}
+use Rattle.station_file.specs.Inside.{byteField, prepend, Passed, RecordGood}
+use Rattle.station_file.specs.Station.{inputByte}
 
 prepend-none : (r : Reading (List ℕ)) → prepend [] r ≡ r
 prepend-none (got vs last) = refl
@@ -28,9 +24,8 @@ push vs b (got ws last) = rw (append-assoc vs (b ∷ []) ws) refl
 push vs b (refused n) = refl
 
 module _ (ok : ℕ → ℕ → Bool) (xs : List ℕ) (n : ℕ) where
-  -- the first i bytes are passed
   abbrev pub To : ℕ → Type 0
-  To i = prepend (take i xs) (fields (byteField ok) i (n - i) (drop i xs)) ≡ fields (byteField ok) 0 n xs
+  To i = Passed ok xs n i
 
   pub none-yet : To 0
   none-yet = rw (sub-zero n) (prepend-none (fields (byteField ok) 0 n xs))
@@ -73,6 +68,30 @@ module _ (ok : ℕ → ℕ → Bool) (file : List ℕ) (at n i next : ℕ) where
   pub bad-at : next ≡ at + i → i < n → next < length file → ok i (getD file next 0) ≡ false → To ok (drop at file) n i
       → refused 23 ≡ fields (byteField ok) 0 n (drop at file)
   bad-at e h l p t = bad ok (drop at file) n i h (inside e l) (ap (ok i) (there e) ∙ p) t
+
+-- a good record of eleven bytes, which begins at a multiple of eleven
+module _ (file : List ℕ) (at n i next : ℕ) (e : next ≡ at + i) (m : i % 11 ≡ 0) (h : i + 11 ≤ n) (l : next + 11 ≤ length file)
+    (g : RecordGood file next) where
+  nibble : (k : ℕ) → k < 10 → inputByte (i + k) (getD file (next + k) 0) ≡ true
+  nibble k b =
+      let c : (i + k) % 11 ≡ k = omega arith in
+      rw (c, ne-eqb k 10 (λ z. omega arith)) (lt-ltb (getD file (next + k) 0) 16 (g .0 k b))
+
+  nibbles : (k : ℕ) → k ≤ 10 → To inputByte (drop at file) n i → To inputByte (drop at file) n (i + k)
+  nibbles zero b t = rw (add-zero i) t
+  nibbles (suc k) b t =
+      let s : i + suc k ≡ i + k + 1 = omega arith in
+      rw s
+      (more-at inputByte file at n (i + k) (next + k) (omega arith) (omega arith) (omega arith) (nibble k (omega arith))
+      (nibbles k (omega arith) t))
+
+  pub record-at : To inputByte (drop at file) n i → To inputByte (drop at file) n (i + 11)
+  record-at t =
+      let c : (i + 10) % 11 ≡ 10 = omega arith in
+      let s : i + 11 ≡ i + 10 + 1 = omega arith in
+      rw s
+      (more-at inputByte file at n (i + 10) (next + 10) (omega arith) (omega arith) (omega arith)
+      (rw c (lt-ltb (getD file (next + 10) 0) 2 (g .1))) (nibbles 10 (omega arith) t))
 
 module _ (ok : ℕ → ℕ → Bool) (file : List ℕ) (at n i : ℕ) where
   pub all-at : i ≤ n → n ≤ i → To ok (drop at file) n i

@@ -1,11 +1,12 @@
 -- What the functions inside this crate promise each other. No promise of a public function cites it.
 -- Assumes nothing.
 use mathlib.Core.Path.{_≡_}
+use mathlib.Core.Bool.{Bool}
 use mathlib.Core.List.{List, [], _∷_, _++_}
-use Prim.Native.Nat.{ℕ, zero, suc, _+_, _*_, _<_, _≤_}
+use Prim.Native.Nat.{ℕ, zero, suc, _+_, _-_, _*_, _<_, _≤_}
 use lib.Dec.{eqb}
 use lib.ListN.{length, take, drop, getD}
-use Rattle.station_file.specs.Reading.{Reading, got, refused, andThen, tested, number}
+use Rattle.station_file.specs.Reading.{Reading, got, refused, andThen, tested, byte, number, fields}
 use Rattle.station_file.specs.Station.{Station, romSection, sheetSection, inputSection, ended}
 use Rattle.station_file.specs.Station as station
 use Rattle.station_file.specs.Answers.{faultNumber}
@@ -93,6 +94,20 @@ bytesIn width file (section.Refused f) = refused (faultNumber f)
 abbrev pub SectionFits : ℕ → List ℕ → Section → Type 0
 SectionFits width file (section.Good count start next) = (start + width * count ≡ next) × (next ≤ length file)
 SectionFits width file (section.Refused f) = Unit
+
+-- a scan of bytes, each tested by its index: the first i are passed
+abbrev pub byteField : (ℕ → ℕ → Bool) → ℕ → List ℕ → Reading ℕ
+byteField ok k xs = tested (ok k) 23 (byte xs)
+
+abbrev pub prepend : List ℕ → Reading (List ℕ) → Reading (List ℕ)
+prepend vs r = andThen r (λ (ws : List ℕ) (last : List ℕ). got (vs ++ ws) last)
+
+abbrev pub Passed : (ℕ → ℕ → Bool) → List ℕ → ℕ → ℕ → Type 0
+Passed ok xs n i = prepend (take i xs) (fields (byteField ok) i (n - i) (drop i xs)) ≡ fields (byteField ok) 0 n xs
+
+-- ten nibbles and a release bit
+abbrev pub RecordGood : List ℕ → ℕ → Type 0
+RecordGood file at = ((k : ℕ) → k < 10 → getD file (at + k) 0 < 16) × (getD file (at + 10) 0 < 2)
 
 -- a checked station's fault, or 0
 abbrev pub checkedNumber : Checked → ℕ

@@ -1,13 +1,14 @@
 // Whether the bytes of a sheet or of input records are in range. The reader scans a part of a file so, and the writer a whole
 // list.
 ghost use mathlib.Core.Path.{_≡_};
-ghost use Prim.Native.Nat.{_≤_};
+ghost use mathlib.Core.Bool.{true};
+ghost use Prim.Native.Nat.{_+_, _≤_};
 ghost use lib.ListN.{length, drop};
 ghost use Rattle.memory.specs.Chip.{upd17132};
 ghost use Rattle.clearance.specs.Entry.{proper};
 ghost use Rattle.station_file.specs.Reading.{fields};
 ghost use Rattle.station_file.specs.Station.{inputByte, entryField, inputField};
-ghost use Rattle.station_file.specs.Inside.{scanned, ScanFits};
+ghost use Rattle.station_file.specs.Inside.{scanned, ScanFits, Passed, RecordGood};
 use crate::Checked;
 use crate::Fault;
 
@@ -51,13 +52,49 @@ pub fn entries(bytes: &[u8], at: usize, count: usize) -> Checked
     Checked::Good
 }
 
+// Ten nibbles and a release bit.
+fn whole_record(bytes: &[u8], at: usize) -> bool
+    requires { ⌜ at + 11 ≤ length (now bytes) ⌝ }
+    ensures { λ r. ⌜ (r ≡ true → RecordGood (now (bytes .entry)) at) ⌝ }
+{
+    let mut column = 0;
+    while column < 10 {
+        if 16 <= bytes[at + column] {
+            return false;
+        }
+        column += 1;
+    }
+    bytes[at + 10] < 2
+}
+
+// How many bytes the good records at the front have. It takes a record at a time, which is quicker than byte by byte.
+fn good_records(bytes: &[u8], at: usize, count: usize) -> usize
+    requires { ⌜ at ≤ length (now bytes) ⌝ }
+    ensures { λ r. ⌜ (r ≤ count) × (at + r ≤ length (now (bytes .entry))) × Passed inputByte (drop at (now (bytes .entry))) count r ⌝ }
+{
+    let mut index = 0;
+    let mut next = at;
+    while 11 <= count - index {
+        if bytes.len() - next < 11 {
+            return index;
+        }
+        if !whole_record(bytes, next) {
+            return index;
+        }
+        index += 11;
+        next += 11;
+    }
+    index
+}
+
+// The good records first, then byte by byte from the first that is not.
 pub fn inputs(bytes: &[u8], at: usize, count: usize) -> Checked
     requires { ⌜ at ≤ length (now bytes) ⌝ }
     ensures { λ r. ⌜ scanned (now (bytes .entry)) at count r ≡ fields inputField 0 count (drop at (now (bytes .entry))) ⌝ }
     ensures { λ r. ⌜ ScanFits (now (bytes .entry)) at count r ⌝ }
 {
-    let mut index = 0;
-    let mut next = at;
+    let mut index = good_records(bytes, at, count);
+    let mut next = at + index;
     while index < count {
         if bytes.len() <= next {
             return Checked::Refused(Fault::Early);

@@ -1,6 +1,6 @@
 use borrow.Author.Needs.{needs}
 use Rattle.station_file.specs.Station.{inputByte}
-use Rattle.station_file.proofs.Scanned.{To, none-yet, more-at, early-at, bad-at, all-at}
+use Rattle.station_file.proofs.Scanned.{To, more-at, early-at, bad-at, all-at}
 use borrow.Author.Tests.{not-true, not-false}
 use lib.ListN.{length, drop}
 use native.Mathlib.Omega.{arith}
@@ -15,8 +15,16 @@ Inv-loop bytes at count index₀ next₀ index next = (index ≤ count) × (next
 abbrev μ-loop : tie.MeasureT-loop
 μ-loop bytes at count index₀ next₀ index next = count - index
 
+good-records-requires : tie.Need-good-records-requires Inv-loop μ-loop
+good-records-requires c κs = search needs
+
+add-next : tie.Need-add-next Inv-loop μ-loop
+add-next c = search needs
+
 loop-holds : tie.Need-loop-holds Inv-loop μ-loop
-loop-holds c = (search needs, search needs, search needs, none-yet inputByte (drop (c .before .args .at) (c .before .args .bytes .now)) (c .before .args .count))
+loop-holds c =
+    let g = c .good-records .ensures in
+    (g .0, search needs, g .1, g .2)
 
 returns : tie.Need-returns Inv-loop μ-loop
 returns c =
@@ -37,8 +45,8 @@ returns-2 c =
 add-index : tie.Need-add-index Inv-loop μ-loop
 add-index c = search needs
 
-add-next : tie.Need-add-next Inv-loop μ-loop
-add-next c = search needs
+add-next-2 : tie.Need-add-next-2 Inv-loop μ-loop
+add-next-2 c = search needs
 
 loop-less : tie.Need-loop-less Inv-loop μ-loop
 loop-less c = search needs
@@ -54,7 +62,7 @@ loop-again c =
 
 returns-3 : tie.Need-returns-3 Inv-loop μ-loop
 returns-3 c =
-    let s = c .before .before .before in
+    let s = c .before .before .before .before in
     let l = c .before .loop in
     (all-at inputByte (s .args .bytes .now) (s .args .at) (s .args .count) (l .index) (l .inv .0) (c .loop-test .left) (l .inv .3), search needs)
 
@@ -64,13 +72,15 @@ inputs-spec =
     (tie.spec
     Inv-loop
     μ-loop
+    good-records-requires
+    add-next
     loop-holds
     returns
     shared-slice-read-proper-input
     proper-input-requires
     returns-2
     add-index
-    add-next
+    add-next-2
     loop-less
     loop-again
     returns-3)
