@@ -9,6 +9,7 @@ use crate::Reported;
 use crate::convert::input_of;
 use crate::convert::machine_of;
 use crate::convert::record_of;
+use cpu::Refusal;
 
 fn marks_in_range(lent: Record) -> bool
     ensures { λ r. ⌜ r ≡ marksInRange lent ⌝ }
@@ -19,13 +20,20 @@ fn marks_in_range(lent: Record) -> bool
     lent.standby <= 1
 }
 
+// The refusal of a mark above 1.
+fn bad_mark() -> u8
+    ensures { λ r. ⌜ r ≡ 1 ⌝ }
+{
+    numbers::of_refusal(Refusal::OutOfRange)
+}
+
 // The step by value.
 pub fn stepped(rom: &[u16], lent: Record, input: Inputs) -> Numbered
     ensures { λ r. ⌜ r ≡ stepRecordOf (now (rom .entry)) input lent ⌝ }
 {
     if !marks_in_range(lent) {
         return Numbered {
-            number: 1,
+            number: bad_mark(),
             left: lent,
         };
     }
@@ -47,7 +55,7 @@ pub fn ran(rom: &[u16], lent: Record, input: Inputs, budget: u32) -> Reported
         return Reported {
             report: Report {
                 steps: 0,
-                number: 1,
+                number: bad_mark(),
             },
             left: lent,
         };

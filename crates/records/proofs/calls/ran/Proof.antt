@@ -5,21 +5,19 @@ use Rattle.records.proofs.Lent.{run-refused, run-answered}
 use borrow.Author.Needs.{needs}
 use Rattle.records.proofs.calls.ran.Statement.{statement}
 use Rattle.records.proofs.calls.ran.Tie as tie
-use Rattle.records.proofs.calls.ran.Reads as reads
-use Rattle.records.proofs.calls.ran.Lts as lts
-use Rattle.cpu.proofs.run.Reads as run-reads
-use Rattle.records.proofs.convert.input_of.Reads as input-of-reads
-use Rattle.records.proofs.convert.machine_of.Reads as machine-of-reads
-use Rattle.records.proofs.calls.marks_in_range.Reads as marks-in-range-reads
-use Rattle.records.proofs.convert.record_of.Reads as record-of-reads
 
 marks-in-range-requires : tie.Need-marks-in-range-requires
 marks-in-range-requires c κs = search needs
 
+bad-mark-requires : tie.Need-bad-mark-requires
+bad-mark-requires c κs = search needs
+
 returns : tie.Need-returns
 returns c =
-    let args = c .before .before .before .args in
-    run-refused (now (args .rom)) (args .input) (args .lent) (args .budget) (sym (c .before .marks-in-range .ensures) ∙ not-true _ (c .if1 .taken))
+    let tested = c .before .before in
+    let args = tested .before .before .args in
+    rw (c .bad-mark .ensures)
+    (run-refused (now (args .rom)) (args .input) (args .lent) (args .budget) (sym (tested .marks-in-range .ensures) ∙ not-true _ (c .before .if1 .taken)))
 
 machine-of-requires : tie.Need-machine-of-requires
 machine-of-requires c κs = search needs
@@ -52,6 +50,7 @@ ran-spec =
     tie.close
     (tie.spec
     marks-in-range-requires
+    bad-mark-requires
     returns
     machine-of-requires
     input-of-requires

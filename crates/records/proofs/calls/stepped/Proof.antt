@@ -5,19 +5,18 @@ use Rattle.records.proofs.Lent.{step-refused, step-answered}
 use borrow.Author.Needs.{needs}
 use Rattle.records.proofs.calls.stepped.Statement.{statement}
 use Rattle.records.proofs.calls.stepped.Tie as tie
-use Rattle.records.proofs.calls.stepped.Reads as reads
-use Rattle.records.proofs.calls.stepped.Lts as lts
-use Rattle.cpu.proofs.step.Reads as step-reads
-use Rattle.records.proofs.convert.input_of.Reads as input-of-reads
-use Rattle.records.proofs.convert.machine_of.Reads as machine-of-reads
-use Rattle.records.proofs.calls.marks_in_range.Reads as marks-in-range-reads
-use Rattle.records.proofs.convert.record_of.Reads as record-of-reads
 
 marks-in-range-requires : tie.Need-marks-in-range-requires
 marks-in-range-requires c κs = search needs
 
+bad-mark-requires : tie.Need-bad-mark-requires
+bad-mark-requires c κs = search needs
+
 returns : tie.Need-returns
-returns c = step-refused (now (c .before .before .before .args .rom)) (c .before .before .before .args .input) (c .before .before .before .args .lent) (sym (c .before .marks-in-range .ensures) ∙ not-true _ (c .if1 .taken))
+returns c =
+    let tested = c .before .before in
+    let args = tested .before .before .args in
+    rw (c .bad-mark .ensures) (step-refused (now (args .rom)) (args .input) (args .lent) (sym (tested .marks-in-range .ensures) ∙ not-true _ (c .before .if1 .taken)))
 
 machine-of-requires : tie.Need-machine-of-requires
 machine-of-requires c κs = search needs
@@ -50,6 +49,7 @@ stepped-spec =
     tie.close
     (tie.spec
     marks-in-range-requires
+    bad-mark-requires
     returns
     machine-of-requires
     input-of-requires
