@@ -52,8 +52,8 @@ use Rattle.cpu.specs.declared.Ran.{Ran}
 use Rattle.cpu.specs.declared.Report.{Report}
 use Rattle.machine.proofs.Machine as R
 use Rattle.machine.proofs.Machine.Laws as R′
-use Rattle.cpu.proofs.Input as I
-use Rattle.cpu.proofs.Input.Laws as I′
+use Rattle.machine.proofs.Input as I
+use Rattle.machine.proofs.Input.Laws as I′
 use Rattle.cpu.proofs.Ran as S
 use Rattle.cpu.proofs.Ran.Laws as S′
 use Rattle.cpu.proofs.Report as E

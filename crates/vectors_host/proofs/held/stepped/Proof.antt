@@ -53,8 +53,8 @@ use Rattle.cpu.specs.declared.Stepped.{Stepped}
 use Rattle.cpu.specs.declared.Answer.{Answer}
 use Rattle.machine.proofs.Machine as R
 use Rattle.machine.proofs.Machine.Laws as R′
-use Rattle.cpu.proofs.Input as I
-use Rattle.cpu.proofs.Input.Laws as I′
+use Rattle.machine.proofs.Input as I
+use Rattle.machine.proofs.Input.Laws as I′
 use Rattle.cpu.proofs.Stepped as S
 use Rattle.cpu.proofs.Stepped.Laws as S′
 use Rattle.cpu.proofs.Answer as E
