@@ -10,9 +10,6 @@ mod writer;
 pub use reader::read;
 pub use writer::write;
 
-// The bytes of the longest good file.
-pub const LONGEST: usize = 48125;
-
 // Why a file or a station is refused: refusals 20 to 25, in their order.
 pub enum Fault {
     Form,

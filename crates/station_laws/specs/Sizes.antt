@@ -1,5 +1,5 @@
--- How much a good file of form 1 holds, and how long it is: buffers of these sizes are never too short for one. LONGEST of
--- src/lib.rt is the last number, 2 + 2 + 2,048 + 2 + 1,024 + 2 + 45,045.
+-- How much a good file of form 1 holds, and how long it is: buffers of these sizes are never too short for one. The
+-- last number is 2 + 2 + 2,048 + 2 + 1,024 + 2 + 45,045.
 -- Assumes nothing.
 use mathlib.Core.Path.{_≡_}
 use mathlib.Core.List.{List}
