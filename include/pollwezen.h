@@ -1,6 +1,6 @@
 /* Pollwezen: the uPD17132 for a host program in C. Link libpollwezen.a, which `rt staticlib pollwezen` writes.
- * The contracts are in crates/pollwezen/src/lib.rt, the definitions in crates/records/specs/Records.antt and
- * crates/replies/specs/Replies.antt.
+ * The contracts are in crates/pollwezen/src/lib.rt, the definitions in crates/records/specs/Records.antt,
+ * crates/replies/specs/Replies.antt and crates/rows/specs/Listing.antt.
  * The caller keeps what C asks of any call: pointers (not NULL, even to none) to as many elements as said, and a lent record or
  * buffer that no other argument overlaps. Whatever stands in them is answered or refused. No buffer is written past its length,
  * and none is kept. */
@@ -19,7 +19,7 @@ extern "C" {
  * away then, and do not draw them from that record again. */
 
 /* Numbers that are no refusal. Every other number is one of document 01. */
-#define POLLWEZEN_DONE 0      /* a completed step, a run without a refusal, a sheet that passes, a file or text that was read or written */
+#define POLLWEZEN_DONE 0      /* a completed step, a run without a refusal, a sheet that passes, what was read or written */
 #define POLLWEZEN_FAIL 254    /* a sheet that fails */
 #define POLLWEZEN_STANDBY 255 /* the machine stays in standby */
 
