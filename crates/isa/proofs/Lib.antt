@@ -2,4 +2,3 @@ pub mod Words
 pub mod None
 pub mod Group
 pub mod Overview
-pub mod Answers

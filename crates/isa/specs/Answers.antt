@@ -1,6 +1,5 @@
 -- What the decoder and the encoder answer, in the numbers of document 01, "Refusal numbers".
 -- Assumes nothing.
-use mathlib.Core.Path.{_≡_}
 use Prim.Native.Nat.{ℕ}
 use Rattle.isa.specs.declared.Instruction.{Instruction}
 use Rattle.isa.specs.declared.Decoded.{Decoded}
@@ -27,8 +26,3 @@ pub record Encoding : Type 0 where
 abbrev pub encodingOf : Encoded → Encoding
 encodingOf (Word w) = record { refusal = 0; word = w }
 encodingOf TooLarge = record { refusal = 10; word = 0 }
-
--- both lose nothing: different answers differ under them
-pub record Faithful : Type 0 where
-  pub decoded : (a b : Decoded) → decodingOf a ≡ decodingOf b → a ≡ b
-  pub encoded : (a b : Encoded) → encodingOf a ≡ encodingOf b → a ≡ b

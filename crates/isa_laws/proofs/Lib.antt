@@ -1,3 +1,4 @@
+pub mod Faithful
 pub mod Back
 pub mod Forth
 pub mod RoundTrip

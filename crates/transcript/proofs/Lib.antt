@@ -5,4 +5,3 @@ pub mod Lines
 pub mod Turns
 pub mod Texts
 pub mod Parsed
-pub mod Answers

@@ -1,6 +1,5 @@
 -- What `transcript` answers, in the numbers of document 01, "Refusal numbers".
 -- Assumes nothing.
-use mathlib.Core.Path.{_≡_}
 use mathlib.Core.List.{List}
 use Prim.Native.Nat.{ℕ}
 use Rattle.transcript.specs.declared.Printed.{Printed}
@@ -14,7 +13,3 @@ answerOf TooShort = transcript.denied 25
 -- the answer, with what the lent buffer then holds
 abbrev pub printedBy : Printed → List ℕ → transcript.Left
 printedBy r out = record { answer = answerOf r; out = out }
-
--- what stands for each answer loses nothing
-abbrev pub Faithful : Type 0
-Faithful = (a b : Printed) → answerOf a ≡ answerOf b → a ≡ b

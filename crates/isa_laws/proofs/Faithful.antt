@@ -3,11 +3,12 @@
 use mathlib.Core.Path.{_≡_, refl, ap}
 use Prim.Native.Nat.{ℕ}
 use native.Mathlib.Omega.{arith}
-use Rattle.isa.specs.Answers.{Decoding, is, refused, Encoding, decodingOf, encodingOf, Faithful}
+use Rattle.isa.specs.Answers.{Decoding, is, refused, Encoding, decodingOf, encodingOf}
+use Rattle.isa_laws.specs.Faithful.{Faithful}
 use Rattle.isa.specs.declared.Decoded.{Decoded}
 use Rattle.isa.specs.declared.Decoded.the-variants as decoded
 use Rattle.isa.specs.declared.Encoded.{Encoded}
 use Rattle.isa.specs.declared.Encoded.the-variants.{Word, TooLarge}
 
 decodings : (a b : Decoded) → decodingOf a ≡ decodingOf b → a ≡ b
 decodings (decoded.Instruction i) (decoded.Instruction j) e = ap decoded.Instruction (cc)
