@@ -32,10 +32,10 @@ fn of_row(row: u8, addr: u16) -> Flow
         28 => Flow::ReadsTable,
         // PUSH, POP, PEEK, POKE, GET, PUT
         29..=34 => Flow::Barred,
-        // BR
+        // BR, BR @AR
         35 => Flow::Branches(addr),
         36 => Flow::Barred,
-        // CALL
+        // CALL, CALL @AR
         37 => Flow::Calls(addr),
         38 => Flow::Barred,
         // RET, RETSK, then RETI, EI, DI

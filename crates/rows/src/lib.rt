@@ -28,52 +28,65 @@ pub struct Coded {
 
 // How the rows hold their operands: 0 not at all, 1 r and m, 2 m and a nibble, 3 a nibble, 4 rf or p, 5 an address.
 const FORMS: [u8; 47] = [
+    // ADD, ADDC
     1,
     2,
     1,
     2,
+    // INC AR, INC IX
     0,
     0,
+    // SUB, SUBC
+    1,
+    2,
+    1,
+    2,
+    // OR, AND, XOR
     1,
     2,
     1,
     2,
     1,
     2,
-    1,
-    2,
-    1,
+    // SKT, SKF, SKE, SKNE, SKGE, SKLT
     2,
     2,
     2,
     2,
     2,
     2,
-    2,
+    // RORC
     3,
+    // LD, ST, the three forms of MOV
     1,
     2,
     1,
     2,
     2,
+    // MOVT, PUSH, POP
     0,
     0,
     0,
+    // PEEK, POKE, GET, PUT
     4,
     4,
     4,
     4,
+    // BR, BR @AR, CALL, CALL @AR
     5,
     0,
     5,
     0,
+    // RET, RETSK, RETI, EI, DI
     0,
     0,
     0,
     0,
     0,
+    // STOP, HALT
     3,
     3,
+    // NOP
     0,
 ];
 
