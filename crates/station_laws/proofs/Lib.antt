@@ -7,3 +7,4 @@ pub mod Whole
 pub mod Faults
 pub mod RoundTrip
 pub mod Faithful
+pub mod Longer

@@ -31,7 +31,7 @@ chosen : (p : Bool) (n a v : ℕ) (b rest : List ℕ) → cond p (got a b) (refu
 chosen true n a v b rest h = (refl, h)
 chosen false n a v b rest h = absurd (let z : _≡_ {A = ℕ} 0 1 = cc in omega arith)
 
-passed : (ok : ℕ → Bool) (n : ℕ) (r : Reading ℕ) (v : ℕ) (rest : List ℕ) → tested ok n r ≡ got v rest → (ok v ≡ true) × (r ≡ got v rest)
+pub passed : (ok : ℕ → Bool) (n : ℕ) (r : Reading ℕ) (v : ℕ) (rest : List ℕ) → tested ok n r ≡ got v rest → (ok v ≡ true) × (r ≡ got v rest)
 passed ok n (got a b) v rest h =
     let p = chosen (ok a) n a v b rest h in
     let q : got a b ≡ got v rest = p .1 in
@@ -40,16 +40,16 @@ passed ok n (got a b) v rest h =
 passed ok n (refused m) v rest h = absurd (let z : _≡_ {A = ℕ} 0 1 = cc in omega arith)
 
 -- a field of so many bytes
-abbrev Takes : ℕ → (ℕ → List ℕ → Reading ℕ) → Type 0
+abbrev pub Takes : ℕ → (ℕ → List ℕ → Reading ℕ) → Type 0
 Takes w field = (k : ℕ) (xs : List ℕ) (v : ℕ) (rest : List ℕ) → field k xs ≡ got v rest → length xs ≡ w + length rest
 
-two-bytes : (xs : List ℕ) (v : ℕ) (rest : List ℕ) → number 2 xs ≡ got v rest → length xs ≡ 2 + length rest
+pub two-bytes : (xs : List ℕ) (v : ℕ) (rest : List ℕ) → number 2 xs ≡ got v rest → length xs ≡ 2 + length rest
 unfolding number
 two-bytes [] v rest h = absurd (let z : _≡_ {A = ℕ} 0 1 = cc in omega arith)
 two-bytes (a ∷ []) v rest h = absurd (let z : _≡_ {A = ℕ} 0 1 = cc in omega arith)
 two-bytes (a ∷ b ∷ xs) v rest h = let e : xs ≡ rest = cc in omega (arith, ap length e)
 
-one-byte : (ok : ℕ → ℕ → Bool) → Takes 1 (λ (k : ℕ) (xs : List ℕ). tested (ok k) 23 (byte xs))
+pub one-byte : (ok : ℕ → ℕ → Bool) → Takes 1 (λ (k : ℕ) (xs : List ℕ). tested (ok k) 23 (byte xs))
 one-byte ok k [] v rest h = absurd (let z : _≡_ {A = ℕ} 0 1 = cc in omega arith)
 one-byte ok k (b ∷ xs) v rest h =
     let q : got b xs ≡ got v rest = passed (ok k) 23 (got b xs) v rest h .1 in
@@ -73,11 +73,11 @@ all-fields w field t k (suc n) xs vs rest h =
     (sym (ap length d) ∙ ap suc (g .0), rw (mul-suc w n) (omega (arith, f, g .1, ap length e)))
 
 -- a count and its elements
-record Counted (ok : ℕ → Bool) (size : ℕ → ℕ) (w : ℕ) (xs vs rest : List ℕ) : Type 0 where
-  count : ℕ
-  fine : ok count ≡ true
-  elements : length vs ≡ size count
-  bytes : length xs ≡ 2 + (w * size count + length rest)
+pub record Counted (ok : ℕ → Bool) (size : ℕ → ℕ) (w : ℕ) (xs vs rest : List ℕ) : Type 0 where
+  pub count : ℕ
+  pub fine : ok count ≡ true
+  pub elements : length vs ≡ size count
+  pub bytes : length xs ≡ 2 + (w * size count + length rest)
 
 counted : (ok : ℕ → Bool) (size : ℕ → ℕ) (w : ℕ) (field : ℕ → List ℕ → Reading ℕ) → Takes w field → (xs vs rest : List ℕ)
     → andThen (tested ok 22 (number 2 xs)) (λ (n : ℕ) (last : List ℕ). fields field 0 (size n) last) ≡ got vs rest → Counted ok size w xs vs rest
@@ -88,16 +88,16 @@ counted ok size w field t xs vs rest h =
     let b = two-bytes xs (s .value) (s .left) (p .1) in
     record { count = s .value; fine = p .0; elements = a .0; bytes = b ∙ ap (λ (n : ℕ). 2 + n) (a .1) }
 
-rom-counted : (xs vs rest : List ℕ) → romSection xs ≡ got vs rest → Counted romCount (λ (n : ℕ). n) 2 xs vs rest
+pub rom-counted : (xs vs rest : List ℕ) → romSection xs ≡ got vs rest → Counted romCount (λ (n : ℕ). n) 2 xs vs rest
 unfolding romSection
 rom-counted xs vs rest h = counted romCount (λ (n : ℕ). n) 2 wordField (λ (k : ℕ). two-bytes) xs vs rest h
 
-sheet-counted : (words : ℕ) (xs vs rest : List ℕ) → sheetSection words xs ≡ got vs rest → Counted (sheetCount words) (λ (n : ℕ). n) 1 xs vs rest
+pub sheet-counted : (words : ℕ) (xs vs rest : List ℕ) → sheetSection words xs ≡ got vs rest → Counted (sheetCount words) (λ (n : ℕ). n) 1 xs vs rest
 unfolding sheetSection
 sheet-counted words xs vs rest h =
     counted (sheetCount words) (λ (n : ℕ). n) 1 entryField (one-byte (λ (k : ℕ). proper upd17132)) xs vs rest h
 
-inputs-counted : (xs vs rest : List ℕ) → inputSection form1 xs ≡ got vs rest
+pub inputs-counted : (xs vs rest : List ℕ) → inputSection form1 xs ≡ got vs rest
     → Counted (λ (n : ℕ). leb n 4095) (λ (n : ℕ). 11 * n) 1 xs vs rest
 unfolding inputSection
 inputs-counted xs vs rest h =
@@ -123,14 +123,14 @@ small rom sheet inputs xs a b c d f r s i e =
     record { rom = omega arith; sheet = omega arith; inputs = omega arith; file = omega arith }
 
 -- the sections from each on
-abbrev inputsOn : List ℕ → List ℕ → List ℕ → Reading Station
+abbrev pub inputsOn : List ℕ → List ℕ → List ℕ → Reading Station
 inputsOn rom sheet c =
     andThen (inputSection form1 c) (λ (inputs : List ℕ) (d : List ℕ). ended (record { rom = rom; sheet = sheet; inputs = inputs }) d)
 
-abbrev sheetOn : List ℕ → List ℕ → Reading Station
+abbrev pub sheetOn : List ℕ → List ℕ → Reading Station
 sheetOn rom b = andThen (sheetSection (length rom) b) (λ (sheet : List ℕ) (c : List ℕ). inputsOn rom sheet c)
 
-abbrev romOn : List ℕ → Reading Station
+abbrev pub romOn : List ℕ → Reading Station
 romOn a = andThen (romSection a) (λ (rom : List ℕ) (b : List ℕ). sheetOn rom b)
 
 pub sizes : Sizes

@@ -1,3 +1,4 @@
 pub mod RoundTrip
 pub mod Sizes
 pub mod Faithful
+pub mod Longer
