@@ -1,6 +1,6 @@
 /* Pollwezen: the uPD17132 for a host program in C. Link libpollwezen.a, which `rt staticlib pollwezen` writes.
  * The contracts are in crates/pollwezen/src/lib.rt, the definitions in crates/records/specs/Records.antt,
- * crates/replies/specs/Replies.antt and crates/rows/specs/Listing.antt.
+ * crates/replies/specs/Replies.antt, crates/rows/specs/Listing.antt and crates/coding/specs/Coding.antt.
  * The caller keeps what C asks of any call: pointers (not NULL, even to none) to as many elements as said, and a lent record or
  * buffer that no other argument overlaps. Whatever stands in them is answered or refused. No buffer is written past its length,
  * and none is kept. */

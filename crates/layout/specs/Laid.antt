@@ -10,7 +10,7 @@ use Rattle.records.specs.declared.Report.{Report}
 use Rattle.replies.specs.declared.Checked.{Checked}
 use Rattle.replies.specs.declared.Counts.{Counts}
 use Rattle.replies.specs.declared.Output.{Output}
-use Rattle.rows.specs.declared.Coded.{Coded}
+use Rattle.coding.specs.declared.Coded.{Coded}
 use Rattle.rows.specs.declared.Listed.{Listed}
 use Rattle.layout.specs.declared.Laid.{Laid}
 

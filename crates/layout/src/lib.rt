@@ -3,13 +3,13 @@
 ghost use mathlib.Core.Path.{_≡_};
 ghost use Prim.Native.Nat.{_≤_};
 ghost use Rattle.layout.specs.Laid.{checkOf, codeOf, countOf, inputOf, laidOf, listingOf, outputOf, recordOf, reportOf};
+use coding::Coded;
 use records::Inputs;
 use records::Record;
 use records::Report;
 use replies::Checked;
 use replies::Counts;
 use replies::Output;
-use rows::Coded;
 use rows::Listed;
 
 // Two of each struct, so that the second lies where the first ends.

@@ -2,7 +2,8 @@
 ghost use mathlib.Core.Path.{_≡_};
 ghost use mathlib.Core.Logic.{_↔_};
 ghost use Rattle.isa.specs.Decode.{decodeOf};
-ghost use Rattle.rows.specs.Listing.{codedOf, listedOf};
+ghost use Rattle.rows.specs.Listing.{listedOf};
+ghost use Rattle.coding.specs.Coding.{codedOf};
 ghost use Rattle.memory.specs.Chip.{upd17132};
 ghost use Rattle.clearance.specs.Safe.{Safe};
 ghost use Rattle.verifier.specs.Verdict.{Clear, verifyOf};
@@ -14,13 +15,14 @@ ghost use Rattle.transcript.specs.Transcript.{printOf};
 ghost use Rattle.replies.specs.Replies.{checkedOf, countsOf, outputOf, printedOf};
 ghost use Rattle.records.specs.SafeEntries.{SafeEntries};
 ghost use Rattle.records.specs.Records.{numbered, reported, resetRecord, runRecordOf, stepRecordOf};
+use coding::Coded;
+use coding::Coded;
 use records::Inputs;
 use records::Record;
 use records::Report;
 use replies::Checked;
 use replies::Counts;
 use replies::Output;
-use rows::Coded;
 use rows::Listed;
 
 // The reset record.
@@ -81,7 +83,7 @@ pub extern "C" fn pollwezen_decode(word: u16) -> Listed
 pub extern "C" fn pollwezen_encode(row: u8, first: u8, second: u8, addr: u16) -> Coded
     ensures { λ r. ⌜ r ≡ codedOf row first second addr ⌝ }
 {
-    rows::encode(row, first, second, addr)
+    coding::encode(row, first, second, addr)
 }
 
 // Reads a station file into the lent buffers. A refused file writes nothing.

@@ -1,22 +1,17 @@
 -- Each instruction has its row, and each word comes back from its row.
 -- Assumes nothing.
-use mathlib.Core.Path.{_≡_, _∙_, ap, refl}
+use mathlib.Core.Path.{_≡_, refl}
 use mathlib.Core.Bool.{false}
 use Prim.Native.Nat.{ℕ, _<_}
 use native.Mathlib.Omega.{arith}
-use borrow.Author.Tests.{lt-ltb}
 use lib.Dec.{T, ltb, ltb→lt}
-use Rattle.isa.specs.Answers.{Decoding, is, refused}
-use Rattle.isa.specs.Decode.{decodeOf}
-use Rattle.isa.specs.Encode.{encodeOf}
 use Rattle.isa.specs.declared.AluOp.the-variants.{Add, AddC, Sub, SubC, Or, And, Xor}
 use Rattle.isa.specs.declared.SkipOp.the-variants.{Skt, Skf, Ske, Skne, Skge, Sklt}
 use Rattle.isa.specs.declared.FixedOp.the-variants.{IncAr, IncIx, Movt, PushAr, PopAr, BrAr, CallAr, Ret, Retsk, Reti, Ei, Di, Nop}
 use Rattle.isa.specs.declared.Instruction.{Instruction}
 use Rattle.isa.specs.declared.Instruction.the-variants.{AluRegister, AluImmediate, Skip, Rorc, Ld, St, MovToIndirect, MovFromIndirect, MovImmediate, Peek, Poke, Get, Put, Br, Call, Stop, Halt, Fixed}
-use Rattle.rows.specs.Listing.{list, rowAt, made, spare, rowOf, firstOf, secondOf, addrOf, listedOf, codedOf, ofEncoding}
-use Rattle.rows.specs.Rows.{InList, Rows, codedAgain}
-use Rattle.isa_laws.proofs.RoundTrip.{its-word}
+use Rattle.rows.specs.Listing.{list, rowAt, made, spare, rowOf, firstOf, secondOf, addrOf}
+use Rattle.rows.specs.Rows.{InList, Rows}
 use Rattle.rows.proofs.Words.{refusals}
 
 abbrev found : (i : Instruction) (below : T (ltb (rowOf i) 47))
@@ -77,20 +72,5 @@ in-list (Fixed Nop) = found (Fixed Nop) tt refl refl
 pub neither : {n : ℕ} → n ≡ 3 → n ≡ 0 → ⊥
 neither a b = omega (arith, a, b)
 
--- an instruction's row and operands have its word
-coded : (i : Instruction) → codedOf (rowOf i) (firstOf i) (secondOf i) (addrOf i) ≡ ofEncoding (encodeOf i)
-unfolding codedOf
-coded i =
-    let l = in-list i in
-    rw (lt-ltb (rowOf i) 47 (l .below), l .whole, l .makes)
-
-again : (w : ℕ) → w < 65536 → (listedOf (decodeOf w)) .number ≡ 0 → codedAgain w ≡ record { number = 0; word = w }
-again w h e = go (decodeOf w) refl e
-  where
-    go : (d : Decoding) → decodeOf w ≡ d → (listedOf d) .number ≡ 0
-        → codedOf ((listedOf d) .row) ((listedOf d) .first) ((listedOf d) .second) ((listedOf d) .addr) ≡ record { number = 0; word = w }
-    go (is i) q z = coded i ∙ ap ofEncoding (its-word w i h q .word)
-    go (refused n) q z = absurd (neither (refusals w n h q) z)
-
 pub rows : Rows
-rows = record { refusals = refusals; inList = in-list; again = again }
+rows = record { refusals = refusals; inList = in-list }

@@ -1,6 +1,6 @@
 -- The code's matches over opcodes, the group's columns and the rows: what their last arm stands for, by computed tests.
 -- Assumes nothing.
-use mathlib.Core.Path.{_≡_, refl, subst, sym}
+use mathlib.Core.Path.{_≡_, subst, sym}
 use mathlib.Core.List.{List, [], _∷_}
 use mathlib.Core.Bool.{Bool, true, false, _||_, cond}
 use Prim.Native.Nat.{ℕ, _/_, _%_, _<_, _≤_}
@@ -11,10 +11,10 @@ use Rattle.laws.proofs.Arms.{Rest, hasAny, no-key, or-else, in-rest}
 use Rattle.laws.proofs.Every.{every-at}
 use Rattle.isa.specs.Decode.{entryOf, overview, columns}
 use Rattle.rows.specs.Inside.{opcodeRow, groupRow, wordRow, forms, formOf, firstIn, secondIn}
-use Rattle.rows.specs.Listing.{Row, two, one, to, none, list, rowAt, given, spare, rowOf}
+use Rattle.rows.specs.Listing.{rowOf}
 
 -- single keys, the last one first
-abbrev single : List ℕ → List (List ℕ)
+abbrev pub single : List ℕ → List (List ℕ)
 single [] = []
 single (k ∷ ks) = (k ∷ []) ∷ single ks
 
@@ -71,48 +71,6 @@ row-below w h = by-group (eqb (w / 2048) 7)
     by-group : (t : Bool) → cond t (groupRow (w / 16 % 128)) (opcodeRow (w / 2048)) ≤ 47
     by-group true = group-below (w / 16 % 128) (omega arith)
     by-group false = opcode-below (w / 2048) (omega arith)
-
--- how many operands of which kind a form has
-abbrev kind : Row → ℕ
-kind (two f) = 2
-kind (one f) = 1
-kind (to f) = 3
-kind (none op) = 0
-
-abbrev pub kindIn : ℕ → ℕ
-kindIn form = getD (0 ∷ 2 ∷ 2 ∷ 1 ∷ 1 ∷ 3 ∷ []) form 0
-
-kind-at : (row : ℕ) → row < 47 → kind (rowAt row) ≡ kindIn (formOf row)
-unfolding rowAt list forms
-kind-at row h =
-    eqb→eq (kind (rowAt row)) (kindIn (formOf row)) (every-at (λ (k : ℕ). eqb (kind (rowAt k)) (kindIn (formOf k))) 47 tt row h)
-
-module _ (a b addr : ℕ) where
-  abbrev pub spareBy : ℕ → Bool
-  spareBy k = getD (given a b addr ∷ given 0 b addr ∷ given 0 0 addr ∷ given a b 0 ∷ []) k false
-
-  by-kind : (r : Row) → spareBy (kind r) ≡ spare r a b addr
-  by-kind (two f) = refl
-  by-kind (one f) = refl
-  by-kind (to f) = refl
-  by-kind (none op) = refl
-
-  -- what a row has no field for, by its form
-  pub spare-by : (row form : ℕ) → row < 47 → form ≡ formOf row → spareBy (kindIn form) ≡ spare (rowAt row) a b addr
-  spare-by row form h e = rw (e, ← (kind-at row h)) (by-kind (rowAt row))
-
--- the forms of one operand
-pub one-kind : (form : ℕ) → form < 6 → Rest (single (5 ∷ 2 ∷ 1 ∷ 0 ∷ [])) form → kindIn form ≡ 1
-one-kind form h r =
-    eqb→eq (kindIn form) 1 (in-rest (single (5 ∷ 2 ∷ 1 ∷ 0 ∷ [])) [] (λ (k : ℕ). eqb (kindIn k) 1) 6 tt form h r tt)
-
-abbrev upTo45 : List ℕ
-upTo45 =
-    45 ∷ 44 ∷ 43 ∷ 42 ∷ 41 ∷ 40 ∷ 39 ∷ 38 ∷ 37 ∷ 36 ∷ 35 ∷ 34 ∷ 33 ∷ 32 ∷ 31 ∷ 30 ∷ 29 ∷ 28 ∷ 27 ∷ 26 ∷ 25 ∷ 24 ∷ 23 ∷ 22 ∷ 21 ∷ 20 ∷ 19 ∷ 18 ∷ 17 ∷ 16 ∷ 15 ∷ 14 ∷ 13 ∷ 12 ∷ 11 ∷ 10 ∷ 9 ∷ 8 ∷ 7 ∷ 6 ∷ 5 ∷ 4 ∷ 3 ∷ 2 ∷ 1 ∷ 0 ∷ []
-
--- the last row is NOP
-pub last-row : (row : ℕ) → row < 47 → Rest (single upTo45) row → row ≡ 46
-last-row row h r = eqb→eq row 46 (in-rest (single upTo45) [] (λ (k : ℕ). eqb k 46) 47 tt row h r tt)
 
 -- a row other than 47 is in the list, and its form is one of the six
 module _ (w row : ℕ) (h : w < 65536) (r : row ≡ wordRow w) (e : row ≡ 47 → ⊥) where

@@ -1,13 +1,12 @@
 -- The manual's list of the instruction set (18.3) in plain numbers: a row from 0 to 46, and the operands of its column
 -- "Operand" in their order.
 -- Assumes nothing.
-use mathlib.Core.Bool.{Bool, true, false, not, _&&_, cond}
+use mathlib.Core.Bool.{Bool, not, _&&_}
 use mathlib.Core.List.{List, [], _∷_}
 use Prim.Native.Nat.{ℕ}
-use lib.Dec.{eqb, ltb}
+use lib.Dec.{eqb}
 use lib.ListN.{getD}
-use Rattle.isa.specs.Answers.{Decoding, is, refused, Encoding}
-use Rattle.isa.specs.Encode.{encodeOf}
+use Rattle.isa.specs.Answers.{Decoding, is, refused}
 use Rattle.isa.specs.declared.AluOp.the-variants.{Add, AddC, Sub, SubC, Or, And, Xor}
 use Rattle.isa.specs.declared.SkipOp.the-variants.{Skt, Skf, Ske, Skne, Skge, Sklt}
 use Rattle.isa.specs.declared.FixedOp.{FixedOp}
@@ -15,7 +14,6 @@ use Rattle.isa.specs.declared.FixedOp.the-variants.{IncAr, IncIx, Movt, PushAr,
 use Rattle.isa.specs.declared.Instruction.{Instruction}
 use Rattle.isa.specs.declared.Instruction.the-variants.{AluRegister, AluImmediate, Skip, Rorc, Ld, St, MovToIndirect, MovFromIndirect, MovImmediate, Peek, Poke, Get, Put, Br, Call, Stop, Halt, Fixed}
 use Rattle.rows.specs.declared.Listed.{Listed}
-use Rattle.rows.specs.declared.Coded.{Coded}
 
 -- a row has two operands, one, a program address, or none
 pub data Row : Type 0 where
@@ -106,19 +104,6 @@ spare (two f) a b addr = given 0 0 addr
 spare (one f) a b addr = given 0 b addr
 spare (to f) a b addr = given a b 0
 spare (none op) a b addr = given a b addr
-
-abbrev pub ofEncoding : Encoding → Coded
-ofEncoding e = record { number = e .refusal; word = e .word }
-
-abbrev pub uncoded : ℕ → Coded
-uncoded n = record { number = n; word = 0 }
-
--- a row past the list is out of range, refusal 1; what the row has no field for is too large for it, refusal 10
-unfoldable pub codedOf : ℕ → ℕ → ℕ → ℕ → Coded
-codedOf row a b addr =
-    cond (ltb row 47)
-    (cond (spare (rowAt row) a b addr) (uncoded 10) (ofEncoding (encodeOf (made (rowAt row) a b addr))))
-    (uncoded 1)
 
 -- the row of an instruction, and its operands, 0 where it has none
 

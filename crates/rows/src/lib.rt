@@ -1,11 +1,9 @@
 // Instructions as plain numbers: the row of the manual's list (18.3), from 0 on, and its operands in the list's order.
-mod coding;
 mod listing;
 
 ghost use mathlib.Core.Path.{_≡_};
 ghost use Prim.Native.Nat.{_<_};
 ghost use Rattle.rows.specs.Inside.{formOf};
-pub use coding::encode;
 pub use listing::decode;
 
 // What a word is: number 0 with its row and operands, those that the row lacks 0; or refusal 3 and zeros. A program address
@@ -17,13 +15,6 @@ pub struct Listed {
     pub first: u8,
     pub second: u8,
     pub addr: u16,
-}
-
-// The word of a row and its operands with number 0, or a refusal and word 0.
-#[repr(C)]
-pub struct Coded {
-    pub number: u8,
-    pub word: u16,
 }
 
 // How the rows hold their operands: 0 not at all, 1 r and m, 2 m and a nibble, 3 a nibble, 4 rf or p, 5 an address.

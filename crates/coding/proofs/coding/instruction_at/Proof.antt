@@ -1,9 +1,9 @@
-use Rattle.rows.proofs.Tables.{last-row}
+use Rattle.coding.proofs.Operands.{last-row}
 use Rattle.rows.specs.Listing.{rowAt, list}
-use Rattle.rows.proofs.coding.instruction_at.Statement.{statement}
-use Rattle.rows.proofs.coding.instruction_at.Tie as tie
-use Rattle.rows.proofs.coding.instruction_at.Reads as reads
-use Rattle.rows.proofs.coding.instruction_at.Lts as lts
+use Rattle.coding.proofs.coding.instruction_at.Statement.{statement}
+use Rattle.coding.proofs.coding.instruction_at.Tie as tie
+use Rattle.coding.proofs.coding.instruction_at.Reads as reads
+use Rattle.coding.proofs.coding.instruction_at.Lts as lts
 
 -- src/coding.rt:15:1
 returns : tie.Need-returns

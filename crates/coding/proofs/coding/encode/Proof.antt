@@ -1,14 +1,14 @@
 use borrow.Author.Tests.{lt-ltb, le-ltb}
-use Rattle.rows.specs.Listing.{codedOf}
+use Rattle.coding.specs.Coding.{codedOf}
 use borrow.Author.Needs.{needs}
-use Rattle.rows.proofs.coding.encode.Statement.{statement}
-use Rattle.rows.proofs.coding.encode.Tie as tie
-use Rattle.rows.proofs.coding.encode.Reads as reads
-use Rattle.rows.proofs.coding.encode.Lts as lts
-use Rattle.rows.proofs.coding.coded.Reads as coded-reads
-use Rattle.rows.proofs.coding.instruction_at.Reads as instruction-at-reads
-use Rattle.rows.proofs.coding.is_spare.Reads as is-spare-reads
-use Rattle.rows.proofs.coding.refused.Reads as refused-reads
+use Rattle.coding.proofs.coding.encode.Statement.{statement}
+use Rattle.coding.proofs.coding.encode.Tie as tie
+use Rattle.coding.proofs.coding.encode.Reads as reads
+use Rattle.coding.proofs.coding.encode.Lts as lts
+use Rattle.coding.proofs.coding.coded.Reads as coded-reads
+use Rattle.coding.proofs.coding.instruction_at.Reads as instruction-at-reads
+use Rattle.coding.proofs.coding.is_spare.Reads as is-spare-reads
+use Rattle.coding.proofs.coding.refused.Reads as refused-reads
 
 -- src/coding.rt:190:9
 refused-requires : tie.Need-refused-requires

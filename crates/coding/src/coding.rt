@@ -2,9 +2,10 @@
 ghost use mathlib.Core.Path.{_≡_};
 ghost use Prim.Native.Nat.{_<_};
 ghost use Rattle.isa.specs.Encode.{encodeOf};
-ghost use Rattle.rows.specs.Listing.{rowAt, made, given, spare, codedOf, uncoded, ofEncoding};
+ghost use Rattle.rows.specs.Listing.{rowAt, made, given, spare};
+ghost use Rattle.coding.specs.Coding.{codedOf, uncoded, ofEncoding};
+ghost use Rattle.coding.specs.Inside.{kindIn};
 use crate::Coded;
-use crate::form_of;
 use isa::AluOp;
 use isa::Encoded;
 use isa::FixedOp;
@@ -159,17 +160,87 @@ fn is_given(a: u8, b: u8, addr: u16) -> bool
     addr != 0
 }
 
+// How many operands the rows have, 3 for a program address.
+const KINDS: [u8; 47] = [
+    // ADD, ADDC
+    2,
+    2,
+    2,
+    2,
+    // INC AR, INC IX
+    0,
+    0,
+    // SUB, SUBC
+    2,
+    2,
+    2,
+    2,
+    // OR, AND, XOR
+    2,
+    2,
+    2,
+    2,
+    2,
+    2,
+    // SKT, SKF, SKE, SKNE, SKGE, SKLT
+    2,
+    2,
+    2,
+    2,
+    2,
+    2,
+    // RORC
+    1,
+    // LD, ST, the three forms of MOV
+    2,
+    2,
+    2,
+    2,
+    2,
+    // MOVT, PUSH, POP
+    0,
+    0,
+    0,
+    // PEEK, POKE, GET, PUT
+    1,
+    1,
+    1,
+    1,
+    // BR, BR @AR, CALL, CALL @AR
+    3,
+    0,
+    3,
+    0,
+    // RET, RETSK, RETI, EI, DI
+    0,
+    0,
+    0,
+    0,
+    0,
+    // STOP, HALT
+    1,
+    1,
+    // NOP
+    0,
+];
+
+fn kind_of(row: u8) -> u8
+    requires { ⌜ row < 47 ⌝ }
+    ensures { λ r. ⌜ r ≡ kindIn row ⌝ }
+{
+    KINDS[row as usize]
+}
+
 // An operand that the row does not have.
 fn is_spare(row: u8, a: u8, b: u8, addr: u16) -> bool
     requires { ⌜ row < 47 ⌝ }
     ensures { λ r. ⌜ r ≡ spare (rowAt row) a b addr ⌝ }
 {
-    match form_of(row) {
+    match kind_of(row) {
         0 => is_given(a, b, addr),
-        1 => is_given(0, 0, addr),
+        1 => is_given(0, b, addr),
         2 => is_given(0, 0, addr),
-        5 => is_given(a, b, 0),
-        _ => is_given(0, b, addr),
+        _ => is_given(a, b, 0),
     }
 }
 

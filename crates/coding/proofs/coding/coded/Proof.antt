@@ -1,13 +1,13 @@
 use mathlib.Core.Path.{_∙_, ap, sym}
 use Rattle.isa.specs.Answers.{encodingOf}
-use Rattle.rows.specs.Listing.{ofEncoding}
+use Rattle.coding.specs.Coding.{ofEncoding}
 use borrow.Author.Needs.{needs}
-use Rattle.rows.proofs.coding.coded.Statement.{statement}
-use Rattle.rows.proofs.coding.coded.Tie as tie
-use Rattle.rows.proofs.coding.coded.Reads as reads
-use Rattle.rows.proofs.coding.coded.Lts as lts
+use Rattle.coding.proofs.coding.coded.Statement.{statement}
+use Rattle.coding.proofs.coding.coded.Tie as tie
+use Rattle.coding.proofs.coding.coded.Reads as reads
+use Rattle.coding.proofs.coding.coded.Lts as lts
 use Rattle.isa.proofs.encode.Reads as encode-reads
-use Rattle.rows.proofs.coding.refused.Reads as refused-reads
+use Rattle.coding.proofs.coding.refused.Reads as refused-reads
 
 -- src/coding.rt:175:11
 encode-requires : tie.Need-encode-requires
