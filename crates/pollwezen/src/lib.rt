@@ -16,7 +16,6 @@ ghost use Rattle.replies.specs.Replies.{checkedOf, countsOf, outputOf, printedO
 ghost use Rattle.records.specs.SafeEntries.{SafeEntries};
 ghost use Rattle.records.specs.Records.{numbered, reported, resetRecord, runRecordOf, stepRecordOf};
 use coding::Coded;
-use coding::Coded;
 use records::Inputs;
 use records::Record;
 use records::Report;
