@@ -2,4 +2,5 @@ pub mod Entries
 pub mod Ruled
 pub mod Paths
 pub mod Steps
+pub mod Prefixes
 pub mod Safety

@@ -13,7 +13,7 @@ use lib.Dec.{eqb, leb}
 use lib.ListN.{getD, set, length, length-set}
 use lib.Seq.{getD-set-same, getD-set-other}
 use Rattle.memory.specs.Chip.{Chip}
-use Rattle.cpu.specs.Control.{Transfer, goes, denies, jump, marked, push, pop, top, next as nextPc, onwards, unlessFull, unlessEmpty, inReach, branchOf, callOf, returnOf, tableOf, standbyOf, onwardOf}
+use Rattle.control.specs.Control.{Transfer, goes, denies, jump, marked, push, pop, top, next as nextPc, onwards, unlessFull, unlessEmpty, inReach, branchOf, callOf, returnOf, tableOf, standbyOf, onwardOf}
 use Rattle.machine.specs.Ranges.{places}
 use Rattle.machine.specs.declared.Control.{Control}
 use Rattle.cpu.proofs.Inside.{both}

@@ -7,30 +7,33 @@ use mathlib.Core.Logic.{_⊎_, inl, inr}
 use Prim.Native.Nat.{ℕ, zero, suc, _+_, _^_, _<_, _≤_}
 use native.Mathlib.Nat.{not-suc-le-zero}
 use native.Mathlib.Omega.{arith}
-use borrow.Author.Tests.{ltb-true, leb-true}
+use borrow.Author.Tests.{ltb-true, leb-true, le-leb}
 use lib.Dec.{ltb, leb, lit≤, lit<}
 use lib.ListN.{getD, length, replicate}
 use Rattle.memory.specs.Chip.{Chip, upd17132, masks17132}
 use Rattle.memory.specs.Range.{cellsInRange}
 use Rattle.registers.specs.Registers.{arOf}
 use Rattle.memory.specs.Write.{keptOf}
-use Rattle.cpu.specs.Answers.{Reply, done, inStandby, refused, costOf, refusalOf, Step, Run}
-use Rattle.cpu.specs.Control.{isStandby}
+use Rattle.execution.specs.Reply.{Reply, done, inStandby, refused, Step}
+use Rattle.cpu.specs.Answers.{costOf, refusalOf, Run}
+use Rattle.control.specs.Control.{isStandby}
 use Rattle.machine.specs.Parts.{resetMachine}
 use Rattle.machine.specs.Ranges.{places, controlInRange, machineInRange, inputInRange, romInRange, allInRange, budgetInRange}
 use Rattle.cpu.specs.Run.{afterStep, ended, runFrom, runOf}
-use Rattle.cpu.specs.Step.{denied, stepOf}
+use Rattle.execution.specs.Execute.{denied}
+use Rattle.cpu.specs.Step.{stepOf}
 use Rattle.machine.specs.declared.Input.{Input}
 use Rattle.machine.specs.declared.Machine.{Machine}
 use Rattle.cpu.proofs.ArFits.{ar-fits}
 use Rattle.cpu.proofs.Inside.{both, all-parts}
 use Rattle.cpu.proofs.Ranged.{ArFits, steps}
 use Rattle.cpu.proofs.Turns.{all-of}
-use Rattle.clearance.specs.Calls.{Call, step, run, stepInPlace, runInPlace, ownInRange, Tally, noCalls, afterReply, ifGoesOn, stepTally, runTally, refusalAt, leftBy, tallyAfter}
+use Rattle.clearance.specs.Calls.{Call, step, run, stepInPlace, runInPlace, Tally, noCalls, stepTally, runTally, leftBy, tallyAfter}
 use Rattle.clearance.specs.Entry.{holds}
 use Rattle.clearance.specs.Rules.{EveryRule, entryAt, flowAt, rule1, ruleOf}
 use Rattle.clearance.specs.Safe.{Moment, Allowed, Within, During, Good, Safe}
 use Rattle.clearance.proofs.Paths.{OnPath}
+use Rattle.clearance.proofs.Prefixes.{ifGoesOn, tallyFrom, upTo, bounded, prefix, tallied}
 use Rattle.clearance.proofs.Steps.{Fair, stepped}
 
 module _ (chip : Chip) (small : chip .levels ≤ places) (some : 0 < chip .levels) (addresses : ArFits chip)
@@ -59,41 +62,46 @@ module _ (chip : Chip) (small : chip .levels ≤ places) (some : 0 < chip .level
 
     -- so many steps of a run
     pub record Ran (left n : ℕ) (m : Machine) (t : Tally) : Type 0 where
-      pub within : Within chip rom depths i left m t
       pub answered : (runFrom chip rom i left n m) .refusal ≡ 0
-      pub after : Inv ((runFrom chip rom i left n m) .machine) (runTally chip rom i left m t)
+      pub after : Inv ((runFrom chip rom i left n m) .machine) (tallyFrom chip rom i left m t)
 
     -- a run after one of its steps
-    pub record Went (r : Reply) (m : Machine) (t : Tally) (n : ℕ) (rest : Run) (restTally : Tally) (restWithin : Type 0) : Type 0 where
-      pub within : ifGoesOn r (isStandby (m .control)) restWithin Unit
+    pub record Went (r : Reply) (m : Machine) (t : Tally) (n : ℕ) (rest : Run) (restTally : Tally) : Type 0 where
       pub answered : (afterStep n m r rest) .refusal ≡ 0
       pub after : Inv ((afterStep n m r rest) .machine) (ifGoesOn r (isStandby (m .control)) restTally t)
 
-    went-done : (b : Bool) (m : Machine) (t : Tally) (n : ℕ) (rest : Run) (t' : Tally) (W : Type 0) → Inv m t → W → rest .refusal ≡ 0 → Inv (rest .machine) t'
-        → (ifGoesOn done b W Unit) × (((cond b (ended n 0 m) rest) .refusal ≡ 0) × Inv ((cond b (ended n 0 m) rest) .machine) (ifGoesOn done b t' t))
-    went-done true m t n rest t' W v w a x = (tt, (refl, v))
-    went-done false m t n rest t' W v w a x = (w, (a, x))
+    went-done : (b : Bool) (m : Machine) (t : Tally) (n : ℕ) (rest : Run) (t' : Tally) → Inv m t → rest .refusal ≡ 0 → Inv (rest .machine) t'
+        → ((cond b (ended n 0 m) rest) .refusal ≡ 0) × Inv ((cond b (ended n 0 m) rest) .machine) (ifGoesOn done b t' t)
+    went-done true m t n rest t' v a x = (refl, v)
+    went-done false m t n rest t' v a x = (a, x)
 
-    went : (r : Reply) (m : Machine) (t : Tally) (n : ℕ) (rest : Run) (t' : Tally) (W : Type 0) → refusalOf r ≡ 0 → Inv m t → W → rest .refusal ≡ 0
-        → Inv (rest .machine) t' → Went r m t n rest t' W
-    went done m t n rest t' W q v w a x =
-        let d = went-done (isStandby (m .control)) m t n rest t' W v w a x in
-        record { within = d .0; answered = d .1 .0; after = d .1 .1 }
-    went inStandby m t n rest t' W q v w a x = record { within = tt; answered = refl; after = v }
-    went (refused k) m t n rest t' W q v w a x = record { within = tt; answered = q; after = v }
+    went : (r : Reply) (m : Machine) (t : Tally) (n : ℕ) (rest : Run) (t' : Tally) → refusalOf r ≡ 0 → Inv m t → rest .refusal ≡ 0
+        → Inv (rest .machine) t' → Went r m t n rest t'
+    went done m t n rest t' q v a x =
+        let d = went-done (isStandby (m .control)) m t n rest t' v a x in
+        record { answered = d .0; after = d .1 }
+    went inStandby m t n rest t' q v a x = record { answered = refl; after = v }
+    went (refused k) m t n rest t' q v a x = record { answered = q; after = v }
 
     ran : (left n : ℕ) (m : Machine) (t : Tally) → Inv m t → inputInRange i ≡ true → Ran left n m t
-    unfolding runFrom runTally Within
-    ran zero n m t v h = record { within = tt; answered = refl; after = v }
+    unfolding runFrom tallyFrom
+    ran zero n m t v h = record { answered = refl; after = v }
     ran (suc left) n m t v h =
         let s = S m in
         let t' = stepTally chip rom i m t in
         let v' : Inv (s .machine) t' = goes-on m t v h in
         let count = n + costOf (s .reply) .steps in
         let rest = ran left count (s .machine) t' v' h in
-        let w = went (s .reply) (s .machine) t' count (runFrom chip rom i left count (s .machine)) (runTally chip rom i left (s .machine) t')
-        (Within chip rom depths i left (s .machine) t') (fair m t v h .answered) v' (rest .within) (rest .answered) (rest .after) in
-        record { within = (moment m t v, w .within); answered = w .answered; after = w .after }
+        let w = went (s .reply) (s .machine) t' count (runFrom chip rom i left count (s .machine)) (tallyFrom chip rom i left (s .machine) t')
+        (fair m t v h .answered) v' (rest .answered) (rest .after) in
+        record { answered = w .answered; after = w .after }
+
+    -- after the first k steps of a run that completes as many
+    ran-up-to : (left k : ℕ) (m : Machine) (t : Tally) → Inv m t → inputInRange i ≡ true → k ≤ (runFrom chip rom i left 0 m) .steps
+        → Inv ((runFrom chip rom i k 0 m) .machine) (upTo chip rom i 0 k m t)
+    ran-up-to left k m t v h some =
+        subst (Inv ((runFrom chip rom i k 0 m) .machine)) (tallied chip rom i k 0 k m t (prefix chip rom i left k 0 m (omega arith)))
+        (ran k 0 m t v h .after)
 
     -- with the record and the ROM in range, what refusal 1 tests is the call's own
     own : (m : Machine) → machineInRange chip m ≡ true → allInRange chip rom m i ≡ inputInRange i
@@ -120,13 +128,6 @@ module _ (chip : Chip) (small : chip .levels ≤ places) (some : 0 < chip .level
         let d = denies-step m (own m (v .ranged) ∙ h) in
         record { answered = λ q. never h q; onlyOne = inr (rw d); after = rw d v }
 
-    -- a call of the run
-    pub record Running (budget : ℕ) (m : Machine) (t : Tally) (own : Bool) : Type 0 where
-      pub answered : own ≡ true → (runOf chip rom i budget m) .refusal ≡ 0
-      pub onlyOne : ((runOf chip rom i budget m) .refusal ≡ 0) ⊎ ((runOf chip rom i budget m) .refusal ≡ 1)
-      pub during : own ≡ true → Within chip rom depths i budget m t
-      pub after : Inv ((runOf chip rom i budget m) .machine) (cond own (runTally chip rom i budget m t) t)
-
     taken : (budget : ℕ) (m : Machine) → (allInRange chip rom m i && budgetInRange budget) ≡ true
         → runOf chip rom i budget m ≡ runFrom chip rom i budget 0 m
     unfolding runOf
@@ -136,24 +137,68 @@ module _ (chip : Chip) (small : chip .levels ≤ places) (some : 0 < chip .level
     unfolding runOf
     denies-run budget m h = rw h
 
+    -- runs of so many steps on a record in range
+    module _ (m : Machine) (t : Tally) (fine : allInRange chip rom m i ≡ true) where
+      some-steps : (k : ℕ) → k ≤ 65535 → runOf chip rom i k m ≡ runFrom chip rom i k 0 m
+      unfolding budgetInRange
+      some-steps k h = taken k m (rw (fine, le-leb k 65535 h))
+
+      same-tally : (k : ℕ) → k ≤ 65535 → runTally chip rom i k m t ≡ upTo chip rom i 0 k m t
+      unfolding runTally upTo
+      same-tally zero h = refl
+      same-tally (suc k) h =
+          ap (λ (r : Run). stepTally chip rom i (r .machine) (runTally chip rom i k m t)) (some-steps k (omega arith))
+          ∙ ap (stepTally chip rom i ((runFrom chip rom i k 0 m) .machine)) (same-tally k (omega arith))
+
+    -- a run of no steps leaves the record
+    no-steps : (m : Machine) (b : Bool) → (allInRange chip rom m i && budgetInRange 0) ≡ b → (runOf chip rom i 0 m) .machine ≡ m
+    unfolding runFrom
+    no-steps m true e = ap (λ (r : Run). r .machine) (taken 0 m e)
+    no-steps m false e = ap (λ (r : Run). r .machine) (denies-run 0 m e)
+
+    -- a call of the run
+    pub record Running (budget : ℕ) (m : Machine) (t : Tally) (own : Bool) : Type 0 where
+      pub answered : own ≡ true → (runOf chip rom i budget m) .refusal ≡ 0
+      pub onlyOne : ((runOf chip rom i budget m) .refusal ≡ 0) ⊎ ((runOf chip rom i budget m) .refusal ≡ 1)
+      pub during : Within chip rom depths i budget m t
+      pub after : Inv ((runOf chip rom i budget m) .machine) (runTally chip rom i ((runOf chip rom i budget m) .steps) m t)
+
     call-run : (budget : ℕ) (m : Machine) (t : Tally) → Inv m t → (b : Bool) → (allInRange chip rom m i && budgetInRange budget) ≡ b
         → Running budget m t b
+    unfolding Within runTally budgetInRange
     call-run budget m t v true h =
-        let p = both (allInRange chip rom m i) (budgetInRange budget) h in
-        let r = ran budget 0 m t v (all-parts chip rom m i (p .0) .1 .0) in
-        let a : (runOf chip rom i budget m) .refusal ≡ 0 = ap (λ (x : Run). x .refusal) (taken budget m h) ∙ r .answered in
+        let p = both (allInRange chip rom m i) (leb budget 65535) h in
+        let small : budget ≤ 65535 = leb-true budget 65535 (p .1) in
+        let fair-input : inputInRange i ≡ true = all-parts chip rom m i (p .0) .1 .0 in
+        let whole-run = taken budget m h in
+        let count : ℕ = (runFrom chip rom i budget 0 m) .steps in
+        let few : count ≤ 0 + budget = bounded chip rom i budget 0 m in
+        let r = ran budget 0 m t v fair-input in
+        let a : (runOf chip rom i budget m) .refusal ≡ 0 = ap (λ (x : Run). x .refusal) whole-run ∙ r .answered in
         record {
           answered = λ _. a;
           onlyOne = inl a;
-          during = λ _. r .within;
-          after = subst (λ (x : Run). Inv (x .machine) (runTally chip rom i budget m t)) (sym (taken budget m h)) (r .after);
+          during = λ k some.
+              let some' : k ≤ count = subst (λ (x : Run). k ≤ x .steps) whole-run some in
+              let there : Inv ((runOf chip rom i k m) .machine) (runTally chip rom i k m t)
+              = rw (some-steps m t (p .0) k (omega arith), same-tally m t (p .0) k (omega arith)) (ran-up-to budget k m t v fair-input some') in
+              moment ((runOf chip rom i k m) .machine) (runTally chip rom i k m t) there;
+          after = subst (λ (x : Run). Inv (x .machine) (runTally chip rom i (x .steps) m t)) (sym whole-run)
+              (subst (Inv ((runFrom chip rom i budget 0 m) .machine))
+              (tallied chip rom i budget 0 count m t (omega arith) ∙ sym (same-tally m t (p .0) count (omega arith))) (r .after));
         }
     call-run budget m t v false h =
+        let d = denies-run budget m h in
         record {
           answered = λ q. never refl q;
-          onlyOne = inr (ap (λ (x : Run). x .refusal) (denies-run budget m h));
-          during = λ q. never refl q;
-          after = subst (λ (x : Run). Inv (x .machine) t) (sym (denies-run budget m h)) v;
+          onlyOne = inr (ap (λ (x : Run). x .refusal) d);
+          during = λ k some.
+              let none : k ≤ 0 = subst (λ (x : Run). k ≤ x .steps) d some in
+              let e : k ≡ 0 = omega arith in
+              let there : Inv ((runOf chip rom i k m) .machine) (runTally chip rom i k m t)
+              = rw (e, no-steps m (allInRange chip rom m i && budgetInRange 0) refl) v in
+              moment ((runOf chip rom i k m) .machine) (runTally chip rom i k m t) there;
+          after = subst (λ (x : Run). Inv (x .machine) (runTally chip rom i (x .steps) m t)) (sym d) v;
         }
 
   -- one call

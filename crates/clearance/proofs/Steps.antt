@@ -13,12 +13,14 @@ use Rattle.isa.specs.declared.Instruction.{Instruction}
 use Rattle.memory.specs.Chip.{Chip}
 use Rattle.memory.specs.Range.{cellsInRange}
 use Rattle.registers.specs.Registers.{arOf}
-use Rattle.cpu.specs.Answers.{Reply, done, inStandby, refused, refusalOf, Step}
-use Rattle.cpu.specs.Control.{Transfer, controlOf, isStandby, marked, onwards}
+use Rattle.execution.specs.Reply.{Reply, done, inStandby, refused, Step}
+use Rattle.cpu.specs.Answers.{refusalOf}
+use Rattle.control.specs.Control.{Transfer, controlOf, isStandby, marked, onwards}
 use Rattle.data.specs.Data.{skipsOf}
 use Rattle.machine.specs.Parts.{cellsOf, withCells, withControl}
 use Rattle.machine.specs.Ranges.{places, machineInRange, allInRange}
-use Rattle.cpu.specs.Step.{completed, denied, woken, leaving, dataOf, writtenOf, settleOf, executeOf, passOver, advanceOf, stepOf}
+use Rattle.execution.specs.Execute.{completed, denied, dataOf, writtenOf, settleOf, executeOf}
+use Rattle.cpu.specs.Step.{woken, leaving, passOver, advanceOf, stepOf}
 use Rattle.machine.specs.declared.Control.{Control}
 use Rattle.machine.specs.declared.Input.{Input}
 use Rattle.machine.specs.declared.Machine.{Machine}

@@ -6,10 +6,10 @@ use mathlib.Core.List.{List}
 use Prim.Native.Nat.{ℕ, zero, suc, _+_}
 use lib.ListN.{getD}
 use Rattle.memory.specs.Chip.{Chip}
-use Rattle.cpu.specs.Answers.{Reply, done, inStandby, refused, refusalOf}
-use Rattle.cpu.specs.Control.{isStandby}
+use Rattle.execution.specs.Reply.{Reply, done, inStandby, refused}
+use Rattle.cpu.specs.Answers.{refusalOf}
 use Rattle.cpu.specs.InPlace.{stepInPlaceOf, runInPlaceOf}
-use Rattle.machine.specs.Ranges.{allInRange, inputInRange, budgetInRange}
+use Rattle.machine.specs.Ranges.{inputInRange, budgetInRange}
 use Rattle.cpu.specs.Run.{runOf}
 use Rattle.cpu.specs.Step.{stepOf}
 use Rattle.machine.specs.declared.Input.{Input}
@@ -58,14 +58,8 @@ afterReply done skipped f t = cond skipped t (counted f t)
 afterReply inStandby skipped f t = t
 afterReply (refused n) skipped f t = t
 
--- a run goes on after a completed step that does not leave the machine standing
-abbrev pub ifGoesOn {ℓ} : {A : Type ℓ} → Reply → Bool → A → A → A
-ifGoesOn done stands on off = cond stands off on
-ifGoesOn inStandby stands on off = off
-ifGoesOn (refused n) stands on off = off
-
 module _ (chip : Chip) (rom : List ℕ) where
-  -- the tally after a step
+  -- the tally after a step; a step with its PC past the ROM is refused, and then its word is not counted
   abbrev pub stepTally : Input → Machine → Tally → Tally
   stepTally i m t = afterReply ((stepOf chip rom i m) .reply) (m .control .skip) (wordFlow (getD rom (m .control .pc) 0)) t
 
@@ -82,18 +76,14 @@ module _ (chip : Chip) (rom : List ℕ) where
   leftBy (stepInPlace i) m = (stepInPlaceOf chip rom i m) .machine
   leftBy (runInPlace i budget) m = (runInPlaceOf chip rom i budget m) .machine
 
-  -- the tally after so many steps of a run, which ends as runFrom does
+  -- the tally after so many completed steps of a run: each counts on the record that a run of the steps before it leaves
   unfoldable pub runTally : Input → ℕ → Machine → Tally → Tally
   runTally i zero m t = t
-  runTally i (suc left) m t =
-      let s = stepOf chip rom i m in
-      let after = stepTally i m t in
-      let rest = runTally i left (s .machine) after in
-      ifGoesOn (s .reply) (isStandby (s .machine .control)) rest after
+  runTally i (suc k) m t = stepTally i ((runOf chip rom i k m) .machine) (runTally i k m t)
 
-  -- a run that refusal 1 meets takes no step
+  -- "Each completed step of a run counts, in a refused run too"
   abbrev pub tallyAfter : Call → Machine → Tally → Tally
   tallyAfter (step i) m t = stepTally i m t
-  tallyAfter (run i budget) m t = cond (allInRange chip rom m i && budgetInRange budget) (runTally i budget m t) t
+  tallyAfter (run i budget) m t = runTally i ((runOf chip rom i budget m) .steps) m t
   tallyAfter (stepInPlace i) m t = stepTally i m t
-  tallyAfter (runInPlace i budget) m t = cond (allInRange chip rom m i && budgetInRange budget) (runTally i budget m t) t
+  tallyAfter (runInPlace i budget) m t = runTally i ((runInPlaceOf chip rom i budget m) .steps) m t

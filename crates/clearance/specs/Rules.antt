@@ -33,6 +33,7 @@ pub record Ask : Type 0 where
 abbrev pub entryAt : List ℕ → ℕ → Entry
 entryAt depths w = getD depths w unreached
 
+-- of a word that lies in the ROM: the rules are tried at no other
 abbrev pub flowAt : List ℕ → ℕ → Flow
 flowAt rom w = wordFlow (getD rom w 0)
 

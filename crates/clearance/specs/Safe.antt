@@ -3,19 +3,17 @@
 -- are its level.
 -- Assumes nothing.
 use mathlib.Core.Path.{_≡_}
-use mathlib.Core.Bool.{true, _&&_}
+use mathlib.Core.Bool.{true}
 use mathlib.Core.List.{List, [], _∷_}
 use mathlib.Core.Logic.{_⊎_}
-use Prim.Native.Nat.{ℕ, zero, suc, _+_, _<_}
+use Prim.Native.Nat.{ℕ, _+_, _<_, _≤_}
 use lib.ListN.{length}
 use Rattle.memory.specs.Chip.{Chip}
-use Rattle.cpu.specs.Control.{isStandby}
 use Rattle.machine.specs.Parts.{resetMachine}
-use Rattle.machine.specs.Ranges.{allInRange, budgetInRange}
-use Rattle.cpu.specs.Step.{stepOf}
+use Rattle.cpu.specs.Run.{runOf}
 use Rattle.machine.specs.declared.Input.{Input}
 use Rattle.machine.specs.declared.Machine.{Machine}
-use Rattle.clearance.specs.Calls.{Call, step, run, stepInPlace, runInPlace, ownInRange, Tally, noCalls, ifGoesOn, stepTally, refusalAt, leftBy, tallyAfter}
+use Rattle.clearance.specs.Calls.{Call, step, run, stepInPlace, runInPlace, ownInRange, Tally, noCalls, runTally, refusalAt, leftBy, tallyAfter}
 use Rattle.clearance.specs.Entry.{holds}
 use Rattle.clearance.specs.Rules.{entryAt}
 
@@ -32,20 +30,17 @@ module _ (chip : Chip) (rom depths : List ℕ) where
     pub answered : ownInRange c ≡ true → refusalAt chip rom c m ≡ 0
     pub onlyOne : (refusalAt chip rom c m ≡ 0) ⊎ (refusalAt chip rom c m ≡ 1)
 
-  -- before each step inside a run
+  -- before every step inside a run, and after its last: however many steps it has completed, the record is the one that a
+  -- run of so many steps leaves
   unfoldable pub Within : Input → ℕ → Machine → Tally → Type 0
-  Within i zero m t = Unit
-  Within i (suc left) m t =
-      let s = stepOf chip rom i m in
-      let rest = Within i left (s .machine) (stepTally chip rom i m t) in
-      Moment m t × ifGoesOn (s .reply) (isStandby (s .machine .control)) rest Unit
+  Within i budget m t =
+      (k : ℕ) → k ≤ (runOf chip rom i budget m) .steps → Moment ((runOf chip rom i k m) .machine) (runTally chip rom i k m t)
 
-  -- a run that refusal 1 meets takes no step
   abbrev pub During : Call → Machine → Tally → Type 0
   During (step i) m t = Unit
-  During (run i budget) m t = (allInRange chip rom m i && budgetInRange budget) ≡ true → Within i budget m t
+  During (run i budget) m t = Within i budget m t
   During (stepInPlace i) m t = Unit
-  During (runInPlace i budget) m t = (allInRange chip rom m i && budgetInRange budget) ≡ true → Within i budget m t
+  During (runInPlace i budget) m t = Within i budget m t
 
   -- from a record and the tally so far: the moment before the first call and after every call, and what each call does
   abbrev pub Good : Machine → Tally → List Call → Type 0

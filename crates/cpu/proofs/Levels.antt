@@ -15,7 +15,7 @@ use Rattle.laws.specs.Every.{every}
 use Rattle.laws.proofs.Every.{every-at, every-of, passed, holds}
 use Rattle.laws.proofs.Wrap.{wrap-below}
 use Rattle.memory.specs.Chip.{Chip}
-use Rattle.cpu.specs.Control.{jump, marked, push, pop, top, next, onwards}
+use Rattle.control.specs.Control.{jump, marked, push, pop, top, next, onwards}
 use Rattle.machine.specs.Ranges.{places, levelInRange, controlInRange}
 use Rattle.machine.specs.declared.Control.{Control}
 use Rattle.cpu.proofs.Inside.{control-parts}

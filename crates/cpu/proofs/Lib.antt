@@ -1,5 +1,3 @@
-pub mod Keeps
-pub mod Settled
 pub mod Phases
 pub mod Inside
 pub mod Levels

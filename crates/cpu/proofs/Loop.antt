@@ -7,11 +7,13 @@ use Prim.Native.Nat.{ℕ, zero, suc, _+_, _-_, _<_, _≤_}
 use native.Mathlib.Omega.{arith}
 use lib.Dec.{eqb}
 use Rattle.memory.specs.Chip.{Chip}
-use Rattle.cpu.specs.Answers.{Reply, done, inStandby, refused, refusalOf, Step}
-use Rattle.cpu.specs.Control.{isStandby}
+use Rattle.execution.specs.Reply.{Reply, done, inStandby, refused, Step}
+use Rattle.cpu.specs.Answers.{refusalOf}
+use Rattle.control.specs.Control.{isStandby}
 use Rattle.machine.specs.Ranges.{allInRange, machineInRange, places}
 use Rattle.cpu.specs.Run.{runFrom, runOf, ended}
-use Rattle.cpu.specs.Step.{stepOf, advanceOf, completed, denied}
+use Rattle.cpu.specs.Step.{stepOf, advanceOf}
+use Rattle.execution.specs.Execute.{completed, denied}
 use Rattle.machine.specs.declared.Input.{Input}
 use Rattle.machine.specs.declared.Machine.{Machine}
 use Rattle.cpu.proofs.Inside.{all-parts}

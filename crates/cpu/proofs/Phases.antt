@@ -14,21 +14,25 @@ use Rattle.isa.specs.declared.FixedOp.the-variants.{IncAr, IncIx, Movt, PushAr,
 use Rattle.isa.specs.declared.Instruction.{Instruction}
 use Rattle.isa.specs.declared.Instruction.the-variants.{AluRegister, AluImmediate, Skip, Rorc, Ld, St, MovToIndirect, MovFromIndirect, MovImmediate, Peek, Poke, Get, Put, Br, Call, Stop, Halt, Fixed}
 use Rattle.memory.specs.Chip.{Chip}
-use Rattle.cpu.specs.Answers.{Reply, done, inStandby, refused, numberOf, Step}
+use Rattle.execution.specs.Reply.{Reply, done, inStandby, refused, Step}
+use Rattle.machine.specs.Refusals.{numberOf}
 use Rattle.registers.specs.Registers.{arOf}
-use Rattle.cpu.specs.Control.{Transfer, controlOf, marked}
+use Rattle.control.specs.Control.{Transfer, controlOf, marked}
 use Rattle.data.specs.Data.{skipsOf}
 use Rattle.machine.specs.Parts.{cellsOf, machineOf}
-use Rattle.cpu.specs.Inside.{withStack, wholeOf, fetchedOf, executedOf}
-use Rattle.cpu.specs.Step.{denied, completed, dataOf, writtenOf, pastTable, woken, leaving, inBase, runnable, runsOf, executeOf, decodedOf, passOver, fetchOf, advanceOf}
+use Rattle.control.specs.Moves.{withStack}
+use Rattle.execution.specs.Inside.{wholeOf, executedOf}
+use Rattle.cpu.specs.Inside.{fetchedOf}
+use Rattle.execution.specs.Execute.{denied, completed, dataOf, writtenOf, pastTable, executeOf}
+use Rattle.cpu.specs.Step.{woken, leaving, inBase, runnable, runsOf, decodedOf, passOver, fetchOf, advanceOf}
 use Rattle.machine.specs.declared.Control.{Control}
 use Rattle.cpu.specs.declared.Fetched.{Fetched}
 use Rattle.cpu.specs.declared.Fetched.the-variants.{Word, Past}
 use Rattle.machine.specs.declared.Input.{Input}
 use Rattle.machine.specs.declared.Machine.{Machine}
-use Rattle.cpu.specs.declared.Moved.{Moved}
-use Rattle.cpu.specs.declared.Moved.the-variants.{To, Refused}
-use Rattle.cpu.specs.declared.Regs.{Regs}
+use Rattle.control.specs.declared.Moved.{Moved}
+use Rattle.control.specs.declared.Moved.the-variants.{To, Refused}
+use Rattle.control.specs.declared.Regs.{Regs}
 
 -- what a fetch that is taken apart says
 fetched-past : (b : Bool) (w : ℕ) → cond b Past (Word w) ≡ Past → b ≡ true

@@ -18,12 +18,13 @@ use Rattle.memory.specs.Chip.{Chip}
 use Rattle.memory.specs.Range.{cellsInRange}
 use Rattle.registers.specs.Registers.{arOf}
 use Rattle.memory.proofs.Writes.{ranged}
-use Rattle.cpu.specs.Answers.{Reply, done, inStandby, refused, Step}
-use Rattle.cpu.specs.Control.{Transfer, goes, denies, jump, marked, push, pop, top, next, onwards, unlessFull, unlessEmpty, inReach, controlOf, branchOf, callOf, returnOf, pushOf, popOf, tableOf, standbyOf, onwardOf}
+use Rattle.execution.specs.Reply.{Reply, done, inStandby, refused, Step}
+use Rattle.control.specs.Control.{Transfer, goes, denies, jump, marked, push, pop, top, next, onwards, unlessFull, unlessEmpty, inReach, controlOf, branchOf, callOf, returnOf, pushOf, popOf, tableOf, standbyOf, onwardOf}
 use Rattle.data.specs.Data.{skipsOf, writesOf}
 use Rattle.machine.specs.Parts.{cellsOf, machineOf}
 use Rattle.machine.specs.Ranges.{places, controlInRange, machineInRange, allInRange}
-use Rattle.cpu.specs.Step.{denied, completed, woken, leaving, dataOf, pastTable, writtenOf, settleOf, executeOf, runsOf, decodedOf, passOver, fetchOf, advanceOf, stepOf}
+use Rattle.execution.specs.Execute.{denied, completed, dataOf, pastTable, writtenOf, settleOf, executeOf}
+use Rattle.cpu.specs.Step.{woken, leaving, runsOf, decodedOf, passOver, fetchOf, advanceOf, stepOf}
 use Rattle.machine.specs.declared.Control.{Control}
 use Rattle.machine.specs.declared.Input.{Input}
 use Rattle.machine.specs.declared.Machine.{Machine}

@@ -8,11 +8,13 @@ use native.Mathlib.Nat.{add-zero}
 use native.Mathlib.Omega.{arith}
 use borrow.Author.Tests.{le-leb, lt-leb}
 use Rattle.memory.specs.Chip.{Chip}
-use Rattle.cpu.specs.Answers.{Reply, done, inStandby, refused, costOf, refusalOf, Step, Run}
-use Rattle.cpu.specs.Control.{isStandby}
+use Rattle.execution.specs.Reply.{Reply, done, inStandby, refused, Step}
+use Rattle.cpu.specs.Answers.{costOf, refusalOf, Run}
+use Rattle.control.specs.Control.{isStandby}
 use Rattle.machine.specs.Ranges.{machineInRange, inputInRange, romInRange, allInRange, budgetInRange}
 use Rattle.cpu.specs.Run.{runFrom, runOf, afterStep, ended}
-use Rattle.cpu.specs.Step.{stepOf, advanceOf, denied}
+use Rattle.cpu.specs.Step.{stepOf, advanceOf}
+use Rattle.execution.specs.Execute.{denied}
 use Rattle.machine.specs.declared.Input.{Input}
 use Rattle.machine.specs.declared.Machine.{Machine}
 

@@ -1,33 +1,15 @@
 -- What a step and a run answer, in the numbers of document 01, "Refusal numbers".
 -- Assumes nothing.
-use mathlib.Core.Bool.{Bool, true, false}
 use Prim.Native.Nat.{ℕ}
-use Rattle.cpu.specs.declared.Refusal.{Refusal}
-use Rattle.cpu.specs.declared.Refusal.the-variants.{OutOfRange, PastRom, NoInstruction, NotInBase, BadTarget, StackFull, StackEmpty, PastTable}
+use Rattle.machine.specs.Refusals.{numberOf}
+use Rattle.machine.specs.declared.Machine.{Machine}
+use Rattle.execution.specs.Reply.{Reply, done, inStandby, refused, Step}
 use Rattle.cpu.specs.declared.Answer.{Answer}
 use Rattle.cpu.specs.declared.Answer.the-variants.{Done, Standby, Refused}
 use Rattle.cpu.specs.declared.End.{End}
 use Rattle.cpu.specs.declared.End.the-variants as end
-use Rattle.machine.specs.declared.Machine.{Machine}
 use Rattle.cpu.specs.declared.Stepped.{Stepped}
 use Rattle.cpu.specs.declared.Ran.{Ran}
-
--- the table of refusals, 1 to 8
-abbrev pub numberOf : Refusal → ℕ
-numberOf OutOfRange = 1
-numberOf PastRom = 2
-numberOf NoInstruction = 3
-numberOf NotInBase = 4
-numberOf BadTarget = 5
-numberOf StackFull = 6
-numberOf StackEmpty = 7
-numberOf PastTable = 8
-
--- a step is completed, answers "standing", or is refused with a number
-pub data Reply : Type 0 where
-  done : Reply
-  inStandby : Reply
-  refused : ℕ → Reply
 
 abbrev pub replyOf : Answer → Reply
 replyOf Done = done
@@ -50,11 +32,6 @@ abbrev pub refusalOf : Reply → ℕ
 refusalOf done = 0
 refusalOf inStandby = 0
 refusalOf (refused n) = n
-
--- a step's answer and the record after it
-pub record Step : Type 0 where
-  pub reply : Reply
-  pub machine : Machine
 
 abbrev pub stepOfStepped : Stepped → Step
 stepOfStepped s = record { reply = replyOf (s .answer); machine = s .machine }

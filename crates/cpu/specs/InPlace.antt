@@ -5,7 +5,8 @@
 use mathlib.Core.List.{List}
 use Prim.Native.Nat.{ℕ}
 use Rattle.memory.specs.Chip.{Chip}
-use Rattle.cpu.specs.Answers.{Step, Run}
+use Rattle.execution.specs.Reply.{Step}
+use Rattle.cpu.specs.Answers.{Run}
 use Rattle.cpu.specs.Run.{runOf}
 use Rattle.cpu.specs.Step.{stepOf}
 use Rattle.machine.specs.declared.Input.{Input}

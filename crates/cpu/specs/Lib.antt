@@ -1,5 +1,4 @@
 pub mod Answers
-pub mod Control
 pub mod Step
 pub mod Run
 pub mod InPlace

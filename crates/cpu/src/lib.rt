@@ -1,24 +1,11 @@
 // The single step and the counted run.
-mod execute;
-mod moves;
 mod running;
 mod stepping;
 
 use machine::Machine;
+use machine::Refusal;
 pub use running::run;
 pub use running::step;
-
-// Why a step is refused: refusals 1 to 8, in their order.
-pub enum Refusal {
-    OutOfRange,
-    PastRom,
-    NoInstruction,
-    NotInBase,
-    BadTarget,
-    StackFull,
-    StackEmpty,
-    PastTable,
-}
 
 // What a step answers.
 pub enum Answer {
@@ -49,20 +36,6 @@ pub struct Report {
 pub struct Ran {
     pub report: Report,
     pub machine: Machine,
-}
-
-// The control while the machine steps, its stack apart.
-struct Regs {
-    pc: u16,
-    levels: u8,
-    skip: bool,
-    standby: bool,
-}
-
-// Where control goes.
-enum Moved {
-    To(Regs),
-    Refused(Refusal),
 }
 
 // What a fetch finds.

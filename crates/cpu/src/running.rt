@@ -7,17 +7,17 @@ ghost use Rattle.cpu.specs.Step.{stepOf};
 use crate::Answer;
 use crate::End;
 use crate::Gone;
-use crate::Moved;
 use crate::Ran;
-use crate::Refusal;
 use crate::Report;
 use crate::Stepped;
 use crate::stepping::advance;
 use crate::stepping::join;
 use crate::stepping::regs_of;
 use crate::stepping::stays;
+use control::Moved;
 use machine::Input;
 use machine::Machine;
+use machine::Refusal;
 use machine::ranges;
 
 // How a run ends whose last step was not completed.

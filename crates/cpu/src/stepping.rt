@@ -2,21 +2,22 @@
 ghost use mathlib.Core.Path.{_≡_};
 ghost use mathlib.Core.List.{List};
 ghost use mathlib.Core.Bool.{false, _&&_};
-ghost use Prim.Native.Nat.{ℕ, _≤_};
+ghost use Prim.Native.Nat.{ℕ};
 ghost use lib.Dec.{eqb};
 ghost use Rattle.memory.specs.Chip.{upd17132};
-ghost use Rattle.cpu.specs.Control.{marked};
-ghost use Rattle.cpu.specs.Inside.{fetchedOf, executedOf, inputAt, withStack, wholeOf};
+ghost use Rattle.control.specs.Control.{marked};
+ghost use Rattle.cpu.specs.Inside.{fetchedOf};
+ghost use Rattle.execution.specs.Inside.{executedOf, inputAt, wholeOf};
+ghost use Rattle.control.specs.Moves.{withStack};
 ghost use Rattle.cpu.specs.Step.{advanceOf};
 use crate::Fetched;
-use crate::Moved;
-use crate::Refusal;
-use crate::Regs;
-use crate::execute::execute;
-use crate::moves;
+use control::Moved;
+use control::Regs;
+use execution::execute;
 use isa::Decoded;
 use machine::Control;
 use machine::Machine;
+use machine::Refusal;
 use memory::Memory;
 
 // The word at an address.
@@ -61,7 +62,6 @@ pub fn advance(
     pins: &[u8; 5],
     directions: &[u8; 5],
 ) -> Moved
-    requires { ⌜ regs .levels ≤ 5 ⌝ }
     ensures { λ r. ⌜ ((release : ℕ) → (regs .standby && eqb release 0) ≡ false → executedOf (now (cells .exit)) (now (stack .exit)) regs r ≡ advanceOf upd17132 (now (rom .entry)) (inputAt (now (pins .entry)) (now (directions .entry)) release) (wholeOf (now (cells .entry)) (now (stack .entry)) regs)) ⌝ }
 {
     let Fetched::Word(word) = fetch(rom, regs.pc) else {
@@ -69,7 +69,7 @@ pub fn advance(
     };
     let awake = woken(regs);
     if regs.skip {
-        return Moved::To(moves::onward(awake, false));
+        return Moved::To(control::onward(awake, false));
     }
     let Decoded::Instruction(instruction) = isa::decode(word) else {
         return Moved::Refused(Refusal::NoInstruction);

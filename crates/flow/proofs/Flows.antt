@@ -12,8 +12,9 @@ use Rattle.isa.specs.declared.Instruction.{Instruction}
 use Rattle.isa.specs.declared.Instruction.the-variants.{AluRegister, AluImmediate, Skip, Rorc, Ld, St, MovToIndirect, MovFromIndirect, MovImmediate, Peek, Poke, Get, Put, Br, Call, Stop, Halt, Fixed}
 use Rattle.isa.specs.declared.SkipOp.the-variants.{Skt, Skf, Ske, Skne, Skge, Sklt}
 use Rattle.memory.specs.Chip.{Chip}
-use Rattle.cpu.specs.Control.{controlOf}
-use Rattle.cpu.specs.Step.{inBase, runnable, pastTable}
+use Rattle.control.specs.Control.{controlOf}
+use Rattle.cpu.specs.Step.{inBase, runnable}
+use Rattle.execution.specs.Execute.{pastTable}
 use Rattle.flow.specs.Flow.{flowOf, decodedFlow}
 use Rattle.flow.specs.FlowLaw.{flowControl, FlowLaw}
 use Rattle.flow.specs.declared.Flow.the-variants.{ReadsTable, Barred}

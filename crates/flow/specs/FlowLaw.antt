@@ -5,7 +5,7 @@ use mathlib.Core.Bool.{Bool, true, false}
 use Prim.Native.Nat.{ℕ}
 use Rattle.isa.specs.declared.Instruction.{Instruction}
 use Rattle.memory.specs.Chip.{Chip}
-use Rattle.cpu.specs.Control.{Transfer, denies, branchOf, callOf, inReach, returnOf, tableOf, standbyOf, onwardOf, controlOf}
+use Rattle.control.specs.Control.{Transfer, denies, branchOf, callOf, inReach, returnOf, tableOf, standbyOf, onwardOf, controlOf}
 use Rattle.machine.specs.declared.Control.{Control}
 use Rattle.flow.specs.Flow.{flowOf}
 use Rattle.flow.specs.declared.Flow.{Flow}

@@ -7,10 +7,12 @@ use Prim.Native.Nat.{ℕ}
 use native.Mathlib.Omega.{arith}
 use lib.Dec.{eqb}
 use Rattle.memory.specs.Chip.{Chip}
-use Rattle.cpu.specs.Answers.{Reply, done, inStandby, refused, replyOf, Step, stepOfStepped}
-use Rattle.cpu.specs.Control.{isStandby}
+use Rattle.execution.specs.Reply.{Reply, done, inStandby, refused, Step}
+use Rattle.cpu.specs.Answers.{replyOf, stepOfStepped}
+use Rattle.control.specs.Control.{isStandby}
 use Rattle.machine.specs.Ranges.{allInRange}
-use Rattle.cpu.specs.Step.{stepOf, advanceOf, fetchOf, woken, leaving, denied}
+use Rattle.cpu.specs.Step.{stepOf, advanceOf, fetchOf, woken, leaving}
+use Rattle.execution.specs.Execute.{denied}
 use Rattle.machine.specs.declared.Input.{Input}
 use Rattle.machine.specs.declared.Machine.{Machine}
 use Rattle.cpu.specs.declared.Stepped.{Stepped}

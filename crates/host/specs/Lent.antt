@@ -1,6 +1,7 @@
 -- What a form in place answers, with the record that it leaves, as the definitions of the step and the run have them.
 -- Assumes nothing.
-use Rattle.cpu.specs.Answers.{Step, Run, replyOf, endOf}
+use Rattle.execution.specs.Reply.{Step}
+use Rattle.cpu.specs.Answers.{Run, replyOf, endOf}
 use Rattle.cpu.specs.declared.Answer.{Answer}
 use Rattle.machine.specs.declared.Machine.{Machine}
 use Rattle.cpu.specs.declared.Report.{Report}

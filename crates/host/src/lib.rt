@@ -2,7 +2,8 @@
 ghost use mathlib.Core.Path.{_≡_};
 ghost use Prim.Native.Nat.{ℕ};
 ghost use Rattle.memory.specs.Chip.{upd17132};
-ghost use Rattle.cpu.specs.Answers.{refused, replyOf};
+ghost use Rattle.execution.specs.Reply.{refused};
+ghost use Rattle.cpu.specs.Answers.{replyOf};
 ghost use Rattle.cpu.specs.InPlace.{runInPlaceOf, stepInPlaceOf};
 ghost use Rattle.host.specs.Lent.{runOfReport, stepOfAnswer};
 use cpu::Answer;

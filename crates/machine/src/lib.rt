@@ -1,4 +1,4 @@
-// The machine's record and the input record: what they hold, what is in range, and reset.
+// The machine's record and the input record: what they hold, what is in range, and reset; and why a step is refused.
 pub mod ranges;
 
 ghost use mathlib.Core.Path.{_≡_};
@@ -26,6 +26,18 @@ pub struct Control {
 pub struct Machine {
     pub memory: Memory,
     pub control: Control,
+}
+
+// Why a step is refused: refusals 1 to 8, in their order.
+pub enum Refusal {
+    OutOfRange,
+    PastRom,
+    NoInstruction,
+    NotInBase,
+    BadTarget,
+    StackFull,
+    StackEmpty,
+    PastTable,
 }
 
 impl Machine {

@@ -80,6 +80,7 @@ module _ (chip : Chip) where
   write-laws cells = record {
     same = same cells;
     other = other cells;
+    past = past cells;
     untouched = λ ws k. untouched ws cells k;
     ranged = λ ws. ranged ws cells;
     counted = λ ws. counted ws cells;

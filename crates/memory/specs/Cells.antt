@@ -24,7 +24,7 @@ unfoldable pub withFlag : ℕ → ℕ → Bool → ℕ
 withFlag x flag true = bitOr x flag
 withFlag x flag false = bitAnd x (bitXor flag 0b1111)
 
--- the address of a row and a column
+-- the address of a row and a column; of a column out of range its low four bits
 abbrev pub place : ℕ → ℕ → ℕ
 place row column = row * 16 + column % 16
 

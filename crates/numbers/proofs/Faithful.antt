@@ -6,11 +6,13 @@ use Prim.Native.Nat.{ℕ, _≤_, _-_, _<_}
 use native.Mathlib.Omega.{arith}
 use lib.ListN.{getD}
 use Rattle.step_laws.proofs.Faithful.{faithful as told}
-use Rattle.cpu.specs.Answers.{refused, numberOf, replyOf}
+use Rattle.execution.specs.Reply.{refused}
+use Rattle.machine.specs.Refusals.{numberOf}
+use Rattle.cpu.specs.Answers.{replyOf}
 use Rattle.cpu.specs.declared.Answer.{Answer}
 use Rattle.cpu.specs.declared.Answer.the-variants.{Done, Standby, Refused}
-use Rattle.cpu.specs.declared.Refusal.{Refusal}
-use Rattle.cpu.specs.declared.Refusal.the-variants.{OutOfRange, PastRom, NoInstruction, NotInBase, BadTarget, StackFull, StackEmpty, PastTable}
+use Rattle.machine.specs.declared.Refusal.{Refusal}
+use Rattle.machine.specs.declared.Refusal.the-variants.{OutOfRange, PastRom, NoInstruction, NotInBase, BadTarget, StackFull, StackEmpty, PastTable}
 use Rattle.station_file.specs.Answers.{faultNumber}
 use Rattle.station_file.specs.declared.Fault.{Fault}
 use Rattle.station_file.specs.declared.Fault.the-variants.{Form, Early, Count, Entry, After, Room}

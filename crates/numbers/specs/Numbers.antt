@@ -3,9 +3,11 @@
 -- Assumes nothing.
 use mathlib.Core.Path.{_≡_}
 use Prim.Native.Nat.{ℕ}
-use Rattle.cpu.specs.Answers.{Reply, done, inStandby, refused, numberOf, replyOf}
+use Rattle.execution.specs.Reply.{Reply, done, inStandby, refused}
+use Rattle.machine.specs.Refusals.{numberOf}
+use Rattle.cpu.specs.Answers.{replyOf}
 use Rattle.cpu.specs.declared.Answer.{Answer}
-use Rattle.cpu.specs.declared.Refusal.{Refusal}
+use Rattle.machine.specs.declared.Refusal.{Refusal}
 use Rattle.station_file.specs.Answers.{faultNumber}
 use Rattle.station_file.specs.declared.Fault.{Fault}
 use Rattle.verifier.specs.Verdict as check

@@ -1,12 +1,13 @@
 // The number that stands for each answer: document 01, "Refusal numbers".
 ghost use mathlib.Core.Path.{_≡_};
-ghost use Rattle.cpu.specs.Answers.{endOf, numberOf, replyOf};
+ghost use Rattle.cpu.specs.Answers.{endOf, replyOf};
+ghost use Rattle.machine.specs.Refusals.{numberOf};
 ghost use Rattle.verifier.specs.Verdict.{answerOf};
 ghost use Rattle.station_file.specs.Answers.{faultNumber};
 ghost use Rattle.numbers.specs.Numbers.{stepNumber, verdictNumber};
 use cpu::Answer;
 use cpu::End;
-use cpu::Refusal;
+use machine::Refusal;
 use station_file::Fault;
 use verifier::Verdict;
 

@@ -1,6 +1,8 @@
 // The C interface, include/pollwezen.h. Records and inputs are plain structs of unsigned integers, and answers are numbers.
 ghost use mathlib.Core.Path.{_≡_};
 ghost use mathlib.Core.Logic.{_↔_};
+ghost use Prim.Native.Nat.{_≤_};
+ghost use lib.ListN.{length};
 ghost use Rattle.isa.specs.Decode.{decodeOf};
 ghost use Rattle.rows.specs.Listing.{listedOf};
 ghost use Rattle.coding.specs.Coding.{codedOf};
@@ -11,7 +13,7 @@ ghost use Rattle.station_file.specs.Answers.{buffersOf, stationOf};
 ghost use Rattle.station_file.specs.Read.{readOf};
 ghost use Rattle.station_file.specs.Station.{form1};
 ghost use Rattle.station_file.specs.Write.{writeOf};
-ghost use Rattle.transcript.specs.Transcript.{printOf};
+ghost use Rattle.transcript.specs.Transcript.{printOf, transcriptOf};
 ghost use Rattle.replies.specs.Replies.{checkedOf, countsOf, outputOf, printedOf};
 ghost use Rattle.records.specs.SafeEntries.{SafeEntries};
 ghost use Rattle.records.specs.Records.{numbered, reported, resetRecord, runRecordOf, stepRecordOf};
@@ -120,6 +122,7 @@ pub extern "C" fn pollwezen_write(
 pub extern "C" fn pollwezen_transcript(file: &[u8], out: &mut [u8]) -> Output
     ensures { λ r. ⌜ r ≡ printedOf ((printOf (now (file .entry)) (now (out .entry))) .answer) ⌝ }
     ensures { λ r. ⌜ now (out .exit) ≡ (printOf (now (file .entry)) (now (out .entry))) .out ⌝ }
+    ensures { λ r. ⌜ length (transcriptOf (now (file .entry))) ≤ 100000 ⌝ }
 {
     replies::of_printed(transcript::transcript(file, out))
 }

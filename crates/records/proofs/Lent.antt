@@ -9,7 +9,8 @@ use lib.Dec.{eqb, leb}
 use Rattle.memory.specs.Chip.{upd17132}
 use borrow.Author.Tests.{leb-true}
 use Rattle.cpu.proofs.Inside.{both}
-use Rattle.cpu.specs.Answers.{Reply, done, inStandby, refused, replyOf, endOf, Step, Run, stepOfStepped, runOfRan}
+use Rattle.execution.specs.Reply.{Reply, done, inStandby, refused, Step}
+use Rattle.cpu.specs.Answers.{replyOf, endOf, Run, stepOfStepped, runOfRan}
 use Rattle.cpu.specs.Run.{runOf}
 use Rattle.cpu.specs.Step.{stepOf}
 use Rattle.machine.specs.declared.Input.{Input}

@@ -6,7 +6,8 @@ use mathlib.Core.List.{List}
 use Prim.Native.Nat.{ℕ}
 use lib.Dec.{eqb, leb}
 use Rattle.memory.specs.Chip.{upd17132}
-use Rattle.cpu.specs.Answers.{Step, Run}
+use Rattle.execution.specs.Reply.{Step}
+use Rattle.cpu.specs.Answers.{Run}
 use Rattle.cpu.specs.InPlace.{stepInPlaceOf, runInPlaceOf}
 use Rattle.machine.specs.Parts.{resetMachine}
 use Rattle.machine.specs.declared.Input.{Input}

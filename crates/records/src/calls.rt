@@ -9,7 +9,7 @@ use crate::Reported;
 use crate::convert::input_of;
 use crate::convert::machine_of;
 use crate::convert::record_of;
-use cpu::Refusal;
+use machine::Refusal;
 
 fn marks_in_range(lent: Record) -> bool
     ensures { λ r. ⌜ r ≡ marksInRange lent ⌝ }

@@ -1,5 +1,5 @@
--- The manual's list of the instruction set (18.3) in plain numbers: a row from 0 to 46, and the operands of its column
--- "Operand" in their order.
+-- The manual's list of the instruction set (18.3) in plain numbers: a row from 0 to 46, and what stands in its column
+-- "Operand" in that order, but for the names WR, DBF, AR and IX, which are the same in every word of the row.
 -- Assumes nothing.
 use mathlib.Core.Bool.{Bool, not, _&&_}
 use mathlib.Core.List.{List, [], _∷_}
@@ -84,6 +84,7 @@ list =
     ∷ none Nop
     ∷ []
 
+-- past the list NOP, where nothing asks: a row is tested first
 unfoldable pub rowAt : ℕ → Row
 rowAt row = getD list row (none Nop)
 

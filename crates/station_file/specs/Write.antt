@@ -20,7 +20,7 @@ abbrev pub wordBytes : List ℕ → List ℕ
 wordBytes [] = []
 wordBytes (w ∷ ws) = bytesOf 2 w ++ wordBytes ws
 
--- how many input records; a flat list of bytes that is no whole number of records has none
+-- how many whole input records; a flat list of bytes that is no whole number of records is refused with 22
 abbrev pub records : Station → ℕ
 records s = length (s .inputs) / recordBytes
 

@@ -1,4 +1,4 @@
--- A file longer than every good one is refused, and with what its first 48,126 bytes are refused with. So `station`, which
+-- A file longer than every good one (`Sizes`), and so refused, has the refusal of its first 48,126 bytes. So `station`, which
 -- reads no more of its input, prints the text of the whole. Proved in proofs/Longer.antt.
 -- Assumes nothing.
 use mathlib.Core.Path.{_≡_}

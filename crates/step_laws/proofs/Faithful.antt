@@ -5,14 +5,16 @@ use mathlib.Core.List.{List, [], _∷_}
 use Prim.Native.Nat.{ℕ, _-_}
 use native.Mathlib.Omega.{arith}
 use lib.ListN.{getD}
-use Rattle.cpu.specs.Answers.{Reply, done, inStandby, refused, numberOf, replyOf, endOf}
+use Rattle.execution.specs.Reply.{Reply, done, inStandby, refused}
+use Rattle.machine.specs.Refusals.{numberOf}
+use Rattle.cpu.specs.Answers.{replyOf, endOf}
 use Rattle.step_laws.specs.Faithful.{Faithful}
 use Rattle.cpu.specs.declared.Answer.{Answer}
 use Rattle.cpu.specs.declared.Answer.the-variants.{Done, Standby, Refused}
 use Rattle.cpu.specs.declared.End.{End}
 use Rattle.cpu.specs.declared.End.the-variants as end
-use Rattle.cpu.specs.declared.Refusal.{Refusal}
-use Rattle.cpu.specs.declared.Refusal.the-variants.{OutOfRange, PastRom, NoInstruction, NotInBase, BadTarget, StackFull, StackEmpty, PastTable}
+use Rattle.machine.specs.declared.Refusal.{Refusal}
+use Rattle.machine.specs.declared.Refusal.the-variants.{OutOfRange, PastRom, NoInstruction, NotInBase, BadTarget, StackFull, StackEmpty, PastTable}
 
 -- the refusal with a number
 back : ℕ → Refusal

@@ -13,10 +13,11 @@ use Rattle.memory.specs.Range.{cellsInRange}
 use Rattle.memory.specs.Read.{mixOf, portOf, readOf}
 use Rattle.registers.specs.Registers.{arOf}
 use Rattle.memory.specs.Write.{keptOf, writeOf, writesApplied}
-use Rattle.cpu.specs.Control.{onwardOf, controlOf}
+use Rattle.control.specs.Control.{onwardOf, controlOf}
 use Rattle.data.specs.Data.{flagsAfter, arithmeticWrites, resultWrites, rotateWrites, aluWrites, writesOf, skipsOf}
 use Rattle.machine.specs.Ranges.{controlInRange, machineInRange, inputInRange, romInRange, allInRange}
-use Rattle.cpu.specs.Step.{inBase, runnable, pastTable, writtenOf, executeOf, fetchOf, advanceOf, stepOf}
+use Rattle.cpu.specs.Step.{inBase, runnable, fetchOf, advanceOf, stepOf}
+use Rattle.execution.specs.Execute.{pastTable, writtenOf, executeOf}
 use Rattle.step_laws.specs.Cases.{Cases}
 
 pub numbers : Cases

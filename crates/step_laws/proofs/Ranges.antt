@@ -6,8 +6,9 @@ use mathlib.Core.List.{List}
 use Prim.Native.Nat.{ℕ, zero, suc, _+_, _≤_}
 use lib.Dec.{lit≤}
 use Rattle.memory.specs.Chip.{Chip, upd17132}
-use Rattle.cpu.specs.Answers.{Reply, done, inStandby, refused, costOf, Step, Run}
-use Rattle.cpu.specs.Control.{isStandby}
+use Rattle.execution.specs.Reply.{Reply, done, inStandby, refused, Step}
+use Rattle.cpu.specs.Answers.{costOf, Run}
+use Rattle.control.specs.Control.{isStandby}
 use Rattle.machine.specs.Ranges.{places, machineInRange, allInRange, budgetInRange}
 use Rattle.cpu.specs.Run.{afterStep, ended, runFrom, runOf}
 use Rattle.cpu.specs.Step.{stepOf}

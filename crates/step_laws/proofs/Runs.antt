@@ -9,11 +9,13 @@ use native.Mathlib.Nat.{add-zero, zero-add, add-assoc, suc-add, add-suc}
 use native.Mathlib.Omega.{arith}
 use lib.Dec.{lit≤}
 use Rattle.memory.specs.Chip.{Chip, upd17132}
-use Rattle.cpu.specs.Answers.{Reply, done, inStandby, refused, costOf, refusalOf, Step, Run}
-use Rattle.cpu.specs.Control.{isStandby}
+use Rattle.execution.specs.Reply.{Reply, done, inStandby, refused, Step}
+use Rattle.cpu.specs.Answers.{costOf, refusalOf, Run}
+use Rattle.control.specs.Control.{isStandby}
 use Rattle.machine.specs.Ranges.{places, machineInRange, allInRange}
 use Rattle.cpu.specs.Run.{afterStep, ended, runFrom, runOf}
-use Rattle.cpu.specs.Step.{stepOf, denied}
+use Rattle.cpu.specs.Step.{stepOf}
+use Rattle.execution.specs.Execute.{denied}
 use Rattle.machine.specs.declared.Input.{Input}
 use Rattle.machine.specs.declared.Machine.{Machine}
 use Rattle.cpu.proofs.ArFits.{ar-fits}
@@ -123,8 +125,14 @@ module _ (chip : Chip) (rom : List ℕ) (input : Input) where
         sym (begins chip rom input (n + k) m h e) ∙ j r (c ∙ omega arith) b
         ∙ ap (λ (i : ℕ). runFrom chip rom input k i m') z ∙ counted k n 0 m' ∙ ap (after n) (begins chip rom input k m' (omega arith) a)
 
+cycles : (r : Reply) → costOf r .cycles ≡ costOf r .steps
+cycles done = refl
+cycles inStandby = refl
+cycles (refused n) = refl
+
 pub run-laws : RunLaws upd17132
 run-laws = record {
+  cycles = cycles;
   single = λ rom input m. single upd17132 rom input m (allInRange upd17132 rom m input) refl;
   joined = λ rom input n k m. joined upd17132 rom input (lit≤ tt) ar-fits n k m (allInRange upd17132 rom m input) refl;
 }

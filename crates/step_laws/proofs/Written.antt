@@ -20,10 +20,10 @@ use Rattle.memory.specs.Names.{PSW, CMP}
 use Rattle.registers.specs.Registers.{arOf}
 use Rattle.memory.specs.Write.{Write, _↤_, touches}
 use Rattle.memory.proofs.Writes.{untouched}
-use Rattle.cpu.specs.Control.{top}
+use Rattle.control.specs.Control.{top}
 use Rattle.data.specs.Data.{Data, arithmeticWrites, resultWrites, rotateWrites, skipWrites, aluWrites, writesOf}
 use Rattle.machine.specs.Parts.{cellsOf}
-use Rattle.cpu.specs.Step.{dataOf, writtenOf}
+use Rattle.execution.specs.Execute.{dataOf, writtenOf}
 use Rattle.step_laws.specs.WrittenCells.{withFlags, arithmetic, operated, tested, writtenCells, WrittenCells, among, Frame}
 
 abbrev ats : List Write → List ℕ

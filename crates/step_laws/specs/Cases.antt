@@ -14,7 +14,7 @@ use Rattle.isa.specs.declared.Instruction.the-variants.{AluRegister, AluImmedia
 use Rattle.memory.specs.Chip.{upd17132}
 use Rattle.memory.specs.Names.{IXH, IXM, IXL, RPL, PSW, CY, Z, IXE, BCD, MPE}
 use Rattle.memory.specs.Write.{Write, _↤_}
-use Rattle.cpu.specs.Answers.{Reply, done, Step}
+use Rattle.execution.specs.Reply.{Reply, done, Step}
 use Rattle.machine.specs.Parts.{cellsOf, machineOf, resetControl}
 use Rattle.cpu.specs.Step.{stepOf}
 use Rattle.machine.specs.declared.Input.{Input}

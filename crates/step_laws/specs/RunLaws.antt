@@ -6,8 +6,9 @@ use mathlib.Core.List.{List}
 use mathlib.Core.Logic.{_⊎_}
 use Prim.Native.Nat.{ℕ, _+_, _≤_}
 use Rattle.memory.specs.Chip.{Chip}
-use Rattle.cpu.specs.Answers.{costOf, refusalOf, Step, Run}
-use Rattle.cpu.specs.Control.{isStandby}
+use Rattle.cpu.specs.Answers.{costOf, refusalOf, Run}
+use Rattle.execution.specs.Reply.{Reply, Step}
+use Rattle.control.specs.Control.{isStandby}
 use Rattle.cpu.specs.Run.{runOf}
 use Rattle.cpu.specs.Step.{stepOf}
 use Rattle.machine.specs.declared.Input.{Input}
@@ -22,6 +23,8 @@ abbrev pub after : ℕ → Run → Run
 after n r = record { steps = n + r .steps; refusal = r .refusal; machine = r .machine }
 
 pub record RunLaws (chip : Chip) : Type 0 where
+  -- "Each completed step counts one cycle"
+  pub cycles : (r : Reply) → costOf r .cycles ≡ costOf r .steps
   -- a run of 1 is a step, its count included
   pub single : (rom : List ℕ) (input : Input) (m : Machine) → runOf chip rom input 1 m ≡ asRun (stepOf chip rom input m)
   -- a run of n + k is a run of n followed by a run of k, where the first is not refused and completes n steps, and n is 0

@@ -21,7 +21,7 @@ use Rattle.memory.specs.Names.{AR3, AR2, AR1, AR0, DBF3, DBF2, DBF1, DBF0, IXH,
 use Rattle.memory.specs.Write.{Write}
 use Rattle.data.specs.Data.{Data, atM, atR, atPointer, writesOf}
 use Rattle.machine.specs.Parts.{cellsOf}
-use Rattle.cpu.specs.Step.{dataOf, writtenOf}
+use Rattle.execution.specs.Execute.{dataOf, writtenOf}
 use Rattle.machine.specs.declared.Input.{Input}
 use Rattle.machine.specs.declared.Machine.{Machine}
 

@@ -11,7 +11,7 @@ use lib.ListN.{length, getD, take, drop}
 use lib.Seq.{sets, drop-drop}
 use borrow.Author.Tests.{eq-eqb, ne-eqb}
 use Rattle.memory.specs.Chip.{upd17132}
-use Rattle.cpu.specs.Answers.{Reply, done, inStandby, refused, Step}
+use Rattle.execution.specs.Reply.{Reply, done, inStandby, refused, Step}
 use Rattle.machine.specs.Parts.{resetMachine}
 use Rattle.cpu.specs.Step.{stepOf}
 use Rattle.machine.specs.declared.Input.{Input}

@@ -47,7 +47,7 @@ hex1 n = hexDigitOf n ∷ []
 abbrev pub hex3 : ℕ → List ℕ
 hex3 n = hexDigitOf (n / 256) ∷ hexDigitOf (n / 16) ∷ hexDigitOf n ∷ []
 
--- a number in decimal, with no zero before it; it has fewer places than it is large
+-- a number in decimal, with no zero before it; n has at most n + 1 places
 abbrev pub decimalPlaces : ℕ → ℕ → List ℕ
 decimalPlaces zero n = []
 decimalPlaces (suc places) n =

@@ -2,15 +2,15 @@
 ghost use mathlib.Core.Path.{_≡_};
 ghost use Prim.Native.Nat.{_≤_};
 ghost use lib.ListN.{getD, length};
-ghost use Rattle.cpu.specs.Answers.{numberOf};
+ghost use Rattle.machine.specs.Refusals.{numberOf};
 ghost use Rattle.transcript.specs.Inside.{Recorded, Reported};
 use crate::Told;
 use crate::inputs::input_at;
 use crate::line::put_line;
 use cpu::Answer;
-use cpu::Refusal;
 use machine::Input;
 use machine::Machine;
+use machine::Refusal;
 
 fn refusal_number(refusal: Refusal) -> u16
     ensures { λ r. ⌜ r ≡ numberOf refusal ⌝ }

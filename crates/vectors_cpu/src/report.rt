@@ -12,7 +12,7 @@ use crate::print::nibble;
 use crate::print::say;
 use cpu::Answer;
 use cpu::End;
-use cpu::Refusal;
+use machine::Refusal;
 use memory::Memory;
 
 fn refusal_number(refusal: Refusal) -> u64 {

@@ -1,5 +1,5 @@
 -- What the check answers: document 01, "A failed check names the lowest word that breaks a rule, and its lowest rule"; and
--- demand 3, when it passes.
+-- when it passes: demand 3, "exactly when".
 -- Assumes nothing.
 use mathlib.Core.Path.{_≡_}
 use mathlib.Core.Bool.{Bool, true, cond}

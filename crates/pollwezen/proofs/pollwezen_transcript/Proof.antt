@@ -16,8 +16,8 @@ same-length c = search needs
 
 returns : tie.Need-returns
 returns c =
-    let e = c .before .before .before .transcript .ensures .0 in
-    (c .of-printed .ensures ∙ ap (λ (x : Left). printedOf (x .answer)) e, ap (λ (x : Left). x .out) e)
+    let e = c .before .before .before .transcript .ensures in
+    (c .of-printed .ensures ∙ ap (λ (x : Left). printedOf (x .answer)) (e .0), (ap (λ (x : Left). x .out) (e .0), e .1))
 
 pub pollwezen-transcript-spec : {M : Type 1} → statement M
 pollwezen-transcript-spec =

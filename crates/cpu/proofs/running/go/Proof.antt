@@ -7,15 +7,14 @@ use borrow.Author.Needs.{needs}
 use borrow.Author.Tests.{not-true, not-false}
 use lib.Dec.{eqb, lit≤}
 use Rattle.memory.specs.Chip.{upd17132}
-use Rattle.cpu.specs.Answers.{Reply}
-use Rattle.cpu.specs.Inside.{inputAt, wholeOf}
+use Rattle.execution.specs.Reply.{Reply}
+use Rattle.execution.specs.Inside.{inputAt, wholeOf}
 use Rattle.machine.specs.Parts.{machineOf, cellsOf}
 use Rattle.machine.specs.Ranges.{allInRange}
 use Rattle.machine.specs.declared.Control.{Control}
 use Rattle.machine.specs.declared.Input.{Input}
 use Rattle.machine.specs.declared.Machine.{Machine}
 use Rattle.cpu.proofs.ArFits.{ar-fits}
-use Rattle.cpu.proofs.Inside.{all-parts, machine-parts, control-parts}
 use Rattle.cpu.proofs.Loop.{Going, Ends, not-so-many, not-in-range, stays-so, begun, used, stood, refuses, going}
 use Rattle.cpu.proofs.running.go.Statement.{statement}
 use Rattle.cpu.proofs.running.go.Tie as tie
@@ -100,9 +99,7 @@ loop-holds : tie.Need-loop-holds Inv-loop μ-loop
 loop-holds c = λ release fine awake. begun _ _ _ _ _ (omega arith) fine awake
 
 advance-requires : tie.Need-advance-requires Inv-loop μ-loop
-advance-requires c κs =
-    let h = c .before .before .before .before .before in
-    control-parts upd17132 _ (machine-parts upd17132 (here h) (all-parts upd17132 (rom h) (here h) (input h) (head h .fine) .0) .1) .1 .0
+advance-requires c κs = search needs
 
 enum-known-next : tie.Need-enum-known-next Inv-loop μ-loop
 enum-known-next c = search needs

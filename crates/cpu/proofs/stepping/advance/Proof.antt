@@ -5,9 +5,9 @@ use borrow.Author.Needs.{needs}
 use Rattle.isa.specs.Answers.{decodingOf}
 use Rattle.isa.specs.Decode.{decodeOf}
 use Rattle.memory.specs.Chip.{upd17132}
-use Rattle.cpu.specs.Control.{Transfer, onwardOf, marked, onwards}
+use Rattle.control.specs.Control.{Transfer, onwardOf, marked, onwards}
 use Rattle.machine.specs.Parts.{machineOf}
-use Rattle.cpu.specs.Step.{completed}
+use Rattle.execution.specs.Execute.{completed}
 use Rattle.machine.specs.declared.Control.{Control}
 use Rattle.cpu.proofs.Phases.{past, passed-over, undecodable, carried-out, past-rom, word-at}
 use Rattle.cpu.proofs.stepping.advance.Statement.{statement}
@@ -60,7 +60,7 @@ returns-3 c = λ release goes.
     (ap decodeOf (w .1) ∙ sym (c .before .before .decode .ensures) ∙ ap decodingOf (c .enum-told2 .given .1))
 
 execute-requires : tie.Need-execute-requires
-execute-requires c κs = rw (ap (λ (k : Control). k .levels) (c .before .before .before .before .before .before .before .woken .ensures [])) (c .before .before .before .before .before .before .before .before .before .before .before .before .before .pre)
+execute-requires c κs = search needs
 
 returns-4 : tie.Need-returns-4
 returns-4 c = λ release goes.

@@ -3,7 +3,8 @@ use mathlib.Core.List.{List, [], _∷_, _++_}
 use Prim.Native.Nat.{ℕ}
 use native.Mathlib.Omega.{arith}
 use Rattle.text.specs.Hex.{hexDigitsOf}
-use Rattle.cpu.specs.Answers.{numberOf, done, inStandby, refused}
+use Rattle.machine.specs.Refusals.{numberOf}
+use Rattle.execution.specs.Reply.{done, inStandby, refused}
 use Rattle.transcript.specs.Inside.{fieldsOf}
 use Rattle.transcript.specs.Text.{decimal}
 use Rattle.transcript.proofs.Lines.{line-of}

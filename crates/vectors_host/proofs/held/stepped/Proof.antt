@@ -45,7 +45,8 @@ use denote.Triple.Walked.{says, Stays, stay-none, stay-none-slice, walkOf, goes-
 use denote.Exit.{yes}
 use borrow.Table.OneValue.{part-in, part-out}
 use Rattle.memory.specs.Chip.{upd17132}
-use Rattle.cpu.specs.Answers.{refused, replyOf}
+use Rattle.execution.specs.Reply.{refused}
+use Rattle.cpu.specs.Answers.{replyOf}
 use Rattle.cpu.specs.InPlace.{stepInPlaceOf}
 use Rattle.machine.specs.declared.Machine.{Machine}
 use Rattle.machine.specs.declared.Input.{Input}

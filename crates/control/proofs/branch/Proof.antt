@@ -1,0 +1,19 @@
+use borrow.Author.Tests.{le-leb, lt-leb}
+use Rattle.control.specs.Control.{branchOf}
+use borrow.Author.Needs.{needs}
+use Rattle.control.proofs.branch.Statement.{statement}
+use Rattle.control.proofs.branch.Tie as tie
+
+returns : tie.Need-returns
+unfolding branchOf
+returns c = λ stack. simp (le-leb _ _ (c .if1 .taken))
+
+jump-requires : tie.Need-jump-requires
+jump-requires c κs = search needs
+
+returns-2 : tie.Need-returns-2
+unfolding branchOf
+returns-2 c = λ stack. simp (lt-leb _ _ (c .before .if1 .left), c .jump .ensures stack)
+
+pub branch-spec : {M : Type 1} → statement M
+branch-spec = tie.close (tie.spec returns jump-requires returns-2)

@@ -1,0 +1,14 @@
+use Rattle.control.specs.Control.{onwardOf}
+use borrow.Author.Needs.{needs}
+use Rattle.control.proofs.onward.Statement.{statement}
+use Rattle.control.proofs.onward.Tie as tie
+
+next-requires : tie.Need-next-requires
+next-requires c κs = search needs
+
+returns : tie.Need-returns
+unfolding onwardOf
+returns c = λ stack. rw (c .next .ensures)
+
+pub onward-spec : {M : Type 1} → statement M
+onward-spec = tie.close (tie.spec next-requires returns)

@@ -1,0 +1,11 @@
+use mathlib.Core.Path.{sym}
+use native.Mathlib.Omega.{arith}
+use lib.ListN.{List·getD-eq-default}
+use Rattle.control.proofs.stack.nothing.Statement.{statement}
+use Rattle.control.proofs.stack.nothing.Tie as tie
+
+returns : tie.Need-returns
+returns c = λ past. let a = c .args in sym (List·getD-eq-default (a .stack) 0 {n = a .place} (omega arith))
+
+pub nothing-spec : {M : Type 1} → statement M
+nothing-spec = tie.close (tie.spec returns)

@@ -1,0 +1,15 @@
+-- What a step answers, in the numbers of document 01, "Refusal numbers", and the record after it.
+-- Assumes nothing.
+use Prim.Native.Nat.{ℕ}
+use Rattle.machine.specs.declared.Machine.{Machine}
+
+-- a step is completed, answers "standing", or is refused with a number
+pub data Reply : Type 0 where
+  done : Reply
+  inStandby : Reply
+  refused : ℕ → Reply
+
+-- a step's answer and the record after it
+pub record Step : Type 0 where
+  pub reply : Reply
+  pub machine : Machine
