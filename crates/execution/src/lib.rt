@@ -98,23 +98,23 @@ pub fn execute(
             return Moved::To(control::onward(regs, false));
         }
         Instruction::Ld { r, m } => {
-            data::ld(cells, pins, directions, r, m);
+            transfers::ld(cells, pins, directions, r, m);
             return Moved::To(control::onward(regs, false));
         }
         Instruction::St { m, r } => {
-            data::st(cells, pins, directions, m, r);
+            transfers::st(cells, pins, directions, m, r);
             return Moved::To(control::onward(regs, false));
         }
         Instruction::MovToIndirect { r, m } => {
-            data::mov_to(cells, pins, directions, r, m);
+            transfers::mov_to(cells, pins, directions, r, m);
             return Moved::To(control::onward(regs, false));
         }
         Instruction::MovFromIndirect { m, r } => {
-            data::mov_from(cells, pins, directions, m, r);
+            transfers::mov_from(cells, pins, directions, m, r);
             return Moved::To(control::onward(regs, false));
         }
         Instruction::MovImmediate { m, n4 } => {
-            data::mov_immediate(cells, m, n4);
+            transfers::mov_immediate(cells, m, n4);
             return Moved::To(control::onward(regs, false));
         }
         Instruction::Peek(_) => return Moved::Refused(Refusal::NotInBase),

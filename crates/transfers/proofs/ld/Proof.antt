@@ -1,8 +1,8 @@
 use Rattle.memory.specs.Write.{writesApplied}
 use Rattle.data.specs.Data.{writesOf}
 use borrow.Author.Needs.{needs}
-use Rattle.data.proofs.ld.Statement.{statement}
-use Rattle.data.proofs.ld.Tie as tie
+use Rattle.transfers.proofs.ld.Statement.{statement}
+use Rattle.transfers.proofs.ld.Tie as tie
 
 register-requires : tie.Need-register-requires
 register-requires c κs = search needs

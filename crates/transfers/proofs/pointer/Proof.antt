@@ -1,6 +1,6 @@
 use borrow.Author.Needs.{needs}
-use Rattle.data.proofs.pointer.Statement.{statement}
-use Rattle.data.proofs.pointer.Tie as tie
+use Rattle.transfers.proofs.pointer.Statement.{statement}
+use Rattle.transfers.proofs.pointer.Tie as tie
 
 register-requires : tie.Need-register-requires
 register-requires c κs = search needs

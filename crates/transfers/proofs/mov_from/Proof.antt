@@ -1,8 +1,8 @@
 use Rattle.memory.specs.Write.{writesApplied}
 use Rattle.data.specs.Data.{writesOf}
 use borrow.Author.Needs.{needs}
-use Rattle.data.proofs.mov_from.Statement.{statement}
-use Rattle.data.proofs.mov_from.Tie as tie
+use Rattle.transfers.proofs.mov_from.Statement.{statement}
+use Rattle.transfers.proofs.mov_from.Tie as tie
 
 address-requires : tie.Need-address-requires
 address-requires c κs = search needs
