@@ -1,9 +1,10 @@
 /* Pollwezen: the uPD17132 for a host program in C. Link libpollwezen.a, which `rt staticlib pollwezen` writes.
  * The contracts are in crates/pollwezen/src/lib.rt, the definitions in crates/records/specs/Records.antt,
- * crates/replies/specs/Replies.antt, crates/rows/specs/Listing.antt and crates/coding/specs/Coding.antt.
- * The caller keeps what C asks of any call: pointers (not NULL, even to none) to as many elements as said, and a lent record or
- * buffer that no other argument overlaps. Whatever stands in them is answered or refused. No buffer is written past its length,
- * and none is kept. */
+ * crates/replies/specs/Replies.antt, crates/rows/specs/Listing.antt and crates/coding/specs/Coding.antt, and those of the
+ * check, the file and the text in the folders specs of crates/verifier, crates/station_file and crates/transcript.
+ * The caller keeps what C asks of any call: pointers (not NULL, even where the length is 0) to as many elements as said, and a
+ * lent record or buffer that no other argument overlaps. Whatever stands in them is answered or refused. No buffer is written
+ * past its length, and none is kept. */
 #ifndef POLLWEZEN_H
 #define POLLWEZEN_H
 
@@ -89,7 +90,7 @@ typedef struct {
     uint16_t word;
 } pollwezen_coded;
 
-/* The rows, from 0 on, in the order of the maker's list (source 000, 18.3). */
+/* The rows, from 0 on, in the order of the manual's list (source 000, 18.3). */
 #define POLLWEZEN_ROWS \
     { \
         "ADD r,m", "ADD m,#n4", "ADDC r,m", "ADDC m,#n4", "INC AR", "INC IX", "SUB r,m", "SUB m,#n4", "SUBC r,m", \

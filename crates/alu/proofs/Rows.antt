@@ -1,4 +1,4 @@
--- The 32 rows of the maker's table: decimal and binary outcomes by computed tests, and the row of a difference by arithmetic.
+-- The 32 rows of the manual's table: decimal and binary outcomes by computed tests, and the row of a difference by arithmetic.
 -- Assumes nothing.
 use mathlib.Core.Path.{_≡_, refl}
 use mathlib.Core.List.{List, [], _∷_, _++_}

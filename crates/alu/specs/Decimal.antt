@@ -12,7 +12,7 @@ use Rattle.alu.specs.declared.Outcome.{Outcome}
 unfoldable pub above19 : List ℕ
 above19 = 0xE ∷ 0xF ∷ 0xC ∷ 0xD ∷ 0xE ∷ 0xF ∷ 0xC ∷ 0xD ∷ 0xA ∷ 0xB ∷ 0xC ∷ 0xD ∷ []
 
--- sums 0 to 9 as they are, CY 0; 10 to 19 less ten, CY 1; then CY 1 and the row above
+-- "sums 0 to 9 as they are, CY 0; 10 to 19 less ten, CY 1; then CY 1" and the row above
 unfoldable pub decimalSum : ℕ → Outcome
 decimalSum n =
     cond (ltb n 10)
@@ -29,7 +29,7 @@ above9 = 0xC ∷ 0xD ∷ 0xE ∷ 0xF ∷ 0xC ∷ 0xD ∷ []
 unfoldable pub below-10 : List ℕ
 below-10 = 0xE ∷ 0xF ∷ 0xC ∷ 0xD ∷ 0xE ∷ 0xF ∷ []
 
--- differences 0 to 9 as they are, CY 0; all others CY 1: 10 to 15 and -16 to -11 by their rows, -10 to -1 give 0 to 9
+-- "Differences 0 to 9 as they are, CY 0; all others CY 1": 10 to 15 and -16 to -11 by their rows, -10 to -1 give 0 to 9
 unfoldable pub decimalDifference : Difference → Outcome
 decimalDifference (plus n) =
     cond (ltb n 10) (record { result = n; carry = false }) (record { result = getD above9 (n - 10) 0; carry = true })

@@ -19,7 +19,7 @@ nibble x = x % 16
 abbrev pub bit : Bool → ℕ
 bit b = cond b 1 0
 
--- binary: CY is a sum above 15 or a difference below 0; the result is the low nibble
+-- "Binary: CY is a sum above 15 or a difference below 0; the result is the low nibble"
 unfoldable pub binarySum : ℕ → Outcome
 binarySum n = record { result = n % 16; carry = ltb 15 n }
 
@@ -37,7 +37,7 @@ subtractOf bcd a b carry =
     let d = differenceOf (nibble a) (nibble b) (bit carry) in
     cond bcd (decimalDifference d) (binaryDifference d)
 
--- ADDC adds CY; SUBC takes it away. AND, OR and XOR touch no flag.
+-- "ADDC adds CY; SUBC takes it away". AND, OR and XOR leave CY.
 unfoldable pub operateOf : AluOp → Bool → ℕ → ℕ → Bool → Outcome
 operateOf Add bcd a b carry = addOf bcd a b false
 operateOf AddC bcd a b carry = addOf bcd a b carry
@@ -47,15 +47,15 @@ operateOf Or bcd a b carry = record { result = bitOr a b; carry = carry }
 operateOf And bcd a b carry = record { result = bitAnd a b; carry = carry }
 operateOf Xor bcd a b carry = record { result = bitXor a b; carry = carry }
 
--- RORC: CY to bit 3, bit 0 to CY
+-- "RORC: CY to bit 3, bit 0 to CY"
 unfoldable pub rotateOf : ℕ → Bool → Outcome
 rotateOf x carry = record { result = bit carry * 8 + nibble x / 2; carry = eqb (x % 2) 1 }
 
--- Z: a result other than 0 clears it; a result of 0 sets it with CMP 0, and with CMP 1 leaves it
+-- "Z: a result other than 0 clears it; a result of 0 sets it with CMP 0, and with CMP 1 leaves it"
 unfoldable pub zeroOf : Bool → Bool → ℕ → Bool
 zeroOf cmp z result = cond (eqb result 0) (cond cmp z true) false
 
--- SKT skips when every bit set in n is 1 in m, SKF when every one is 0; the other four compare m with n4
+-- "SKT skips when every bit set in n is 1 in m, SKF when every one is 0"; the other four compare m with n4
 unfoldable pub skipsOf : SkipOp → ℕ → ℕ → Bool
 skipsOf Skt m n = eqb (bitAnd m n) n
 skipsOf Skf m n = eqb (bitAnd m n) 0

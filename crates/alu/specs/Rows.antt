@@ -1,4 +1,4 @@
--- The order of the differences in the maker's table (source 001, table 5-2): 0 to 15, then -16 to -1.
+-- The order of the differences in the manual's table (source 001, table 5-2): 0 to 15, then -16 to -1.
 -- Assumes nothing.
 use mathlib.Core.Bool.{cond}
 use Prim.Native.Nat.{ℕ, _-_}

@@ -1,11 +1,9 @@
 -- Where control stands on a ROM whose rules hold, and that every flow keeps it there.
 -- Assumes nothing.
-use mathlib.Core.Path.{_≡_, _∙_, ap, refl, sym, subst}
-use mathlib.Core.Bool.{Bool, true, false, _&&_, cond}
+use mathlib.Core.Path.{_≡_, _∙_, refl, sym, subst}
+use mathlib.Core.Bool.{Bool, true, false, cond}
 use mathlib.Core.List.{List, [], _∷_}
-use mathlib.Core.Logic.{⊎-elim}
 use Prim.Native.Nat.{ℕ, suc, _+_, _-_, _^_, _<_, _≤_}
-use native.Mathlib.Nat.{eq-or-lt-of-le, le-of-suc-le-suc}
 use native.Mathlib.Numerals.{add-one}
 use native.Mathlib.Omega.{arith}
 use borrow.Author.Tests.{lt-leb, ne-eqb, eqb-true, eqb-false}
@@ -13,7 +11,7 @@ use lib.Dec.{eqb, leb}
 use lib.ListN.{getD, set, length, length-set}
 use lib.Seq.{getD-set-same, getD-set-other}
 use Rattle.memory.specs.Chip.{Chip}
-use Rattle.control.specs.Control.{Transfer, goes, denies, jump, marked, push, pop, top, next as nextPc, onwards, unlessFull, unlessEmpty, inReach, branchOf, callOf, returnOf, tableOf, standbyOf, onwardOf}
+use Rattle.control.specs.Control.{Transfer, goes, jump, marked, top, inReach, branchOf, callOf, returnOf, tableOf, standbyOf, onwardOf}
 use Rattle.machine.specs.Ranges.{places}
 use Rattle.machine.specs.declared.Control.{Control}
 use Rattle.cpu.proofs.Inside.{both}

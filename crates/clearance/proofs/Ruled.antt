@@ -1,21 +1,21 @@
 -- What the rules give at a word that is reached.
 -- Assumes nothing.
-use mathlib.Core.Path.{_≡_, _∙_, ap, refl, sym}
-use mathlib.Core.Bool.{Bool, true, false, _&&_, _||_, cond}
-use mathlib.Core.List.{List, [], _∷_}
+use mathlib.Core.Path.{_≡_, _∙_, refl, sym}
+use mathlib.Core.Bool.{Bool, true, false, _&&_, _||_}
+use mathlib.Core.List.{List, _∷_}
 use Prim.Native.Nat.{ℕ, zero, suc, _-_, _^_, _<_, _≤_}
 use native.Mathlib.Nat.{eq-or-lt-of-le, le-of-suc-le-suc, not-suc-le-zero}
 use native.Mathlib.Omega.{arith}
 use mathlib.Core.Logic.{⊎-elim}
 use borrow.Author.Tests.{ltb-true, eqb-true}
 use lib.Dec.{eqb, ltb, lit≤}
-use lib.ListN.{getD, length}
+use lib.ListN.{length}
 use Rattle.memory.specs.Chip.{Chip}
 use Rattle.cpu.proofs.Inside.{both}
 use Rattle.flow.specs.declared.Flow.{Flow}
 use Rattle.flow.specs.declared.Flow.the-variants.{ReturnsSkip, ReadsTable}
 use Rattle.clearance.specs.Entry.{reached, holds, covers, shares, atMost}
-use Rattle.clearance.specs.Rules.{Ask, isReturnSkip, entryAt, flowAt, next, met, allMet, skipReturnBelow, skipReturns, rule3, rule4, rule5, rule6, whereReached, ruleOf, EveryRule}
+use Rattle.clearance.specs.Rules.{Ask, isReturnSkip, entryAt, flowAt, met, allMet, skipReturnBelow, skipReturns, rule3, rule4, rule5, rule6, whereReached, ruleOf, EveryRule}
 use Rattle.clearance.proofs.Entries.{holds-reached, covers-holds, shares-both}
 
 module _ (chip : Chip) (rom depths : List ℕ) (every : EveryRule chip rom depths) where

@@ -9,7 +9,7 @@ use native.Mathlib.Nat.{not-suc-le-zero}
 use native.Mathlib.Omega.{arith}
 use borrow.Author.Tests.{ltb-true, leb-true, le-leb}
 use lib.Dec.{ltb, leb, lit≤, lit<}
-use lib.ListN.{getD, length, replicate}
+use lib.ListN.{length}
 use Rattle.memory.specs.Chip.{Chip, upd17132, masks17132}
 use Rattle.memory.specs.Range.{cellsInRange}
 use Rattle.registers.specs.Registers.{arOf}

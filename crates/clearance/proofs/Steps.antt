@@ -1,11 +1,11 @@
 -- A step on a ROM whose rules hold: it is not refused, and control stays on its path.
 -- Assumes nothing.
 use mathlib.Core.Path.{_≡_, _∙_, ap, refl, sym, subst}
-use mathlib.Core.Bool.{Bool, true, false, _&&_, cond}
+use mathlib.Core.Bool.{Bool, true, false, _&&_}
 use mathlib.Core.List.{List}
 use Prim.Native.Nat.{ℕ, _^_, _<_, _≤_}
 use native.Mathlib.Omega.{arith}
-use borrow.Author.Tests.{lt-leb, eqb-true}
+use borrow.Author.Tests.{lt-leb}
 use lib.Dec.{eqb, leb}
 use lib.ListN.{getD, length}
 use Rattle.isa.specs.Decode.{decodeOf}
@@ -15,16 +15,16 @@ use Rattle.memory.specs.Range.{cellsInRange}
 use Rattle.registers.specs.Registers.{arOf}
 use Rattle.execution.specs.Reply.{Reply, done, inStandby, refused, Step}
 use Rattle.cpu.specs.Answers.{refusalOf}
-use Rattle.control.specs.Control.{Transfer, controlOf, isStandby, marked, onwards}
+use Rattle.control.specs.Control.{Transfer, controlOf, isStandby, marked}
 use Rattle.data.specs.Data.{skipsOf}
-use Rattle.machine.specs.Parts.{cellsOf, withCells, withControl}
+use Rattle.machine.specs.Parts.{cellsOf}
 use Rattle.machine.specs.Ranges.{places, machineInRange, allInRange}
-use Rattle.execution.specs.Execute.{completed, denied, dataOf, writtenOf, settleOf, executeOf}
+use Rattle.execution.specs.Execute.{dataOf, executeOf}
 use Rattle.cpu.specs.Step.{woken, leaving, passOver, advanceOf, stepOf}
 use Rattle.machine.specs.declared.Control.{Control}
 use Rattle.machine.specs.declared.Input.{Input}
 use Rattle.machine.specs.declared.Machine.{Machine}
-use Rattle.cpu.proofs.Inside.{both, machine-parts}
+use Rattle.cpu.proofs.Inside.{machine-parts}
 use Rattle.cpu.proofs.Phases.{stays, passed-over, executed}
 use Rattle.cpu.proofs.Turns.{step-advances}
 use Rattle.flow.specs.Flow.{flowOf}
@@ -32,10 +32,10 @@ use Rattle.flow.specs.FlowLaw.{flowControl}
 use Rattle.flow.specs.declared.Flow.{Flow}
 use Rattle.flow.specs.declared.Flow.the-variants.{ReadsTable, Barred}
 use Rattle.flow.proofs.Flows.{flow-law, no-table, word-flow}
-use Rattle.clearance.specs.Calls.{Tally, counted, afterReply, stepTally}
+use Rattle.clearance.specs.Calls.{Tally, counted, afterReply}
 use Rattle.clearance.specs.Rules.{entryAt, flowAt, rule3, EveryRule}
 use Rattle.clearance.proofs.Paths.{OnPath, Kept, follows}
-use Rattle.clearance.proofs.Ruled.{Stands, table-whole, third, fourth, fifth, sixth}
+use Rattle.clearance.proofs.Ruled.{table-whole, third, fourth, fifth, sixth}
 
 module _ (chip : Chip) (small : chip .levels ≤ places) (some : 0 < chip .levels)
     (fits : (cells : List ℕ) → cellsInRange chip cells ≡ true → arOf cells < 2 ^ 10)

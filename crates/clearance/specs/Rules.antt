@@ -60,11 +60,11 @@ module _ (chip : Chip) (rom depths : List ℕ) where
 
 -- Each rule, of a word's number, its flow and its entry.
 
--- 1: word 0 has level 0, tried at word 0 only, reached or not
+-- 1: "Word 0 has level 0", tried at word 0 only, reached or not
 unfoldable pub rule1 : Chip → ℕ → Entry → Bool
 rule1 chip w e = cond (eqb w 0) (holds chip e 0) true
 
--- 2: every entry is 0 to 5 or 15
+-- 2: "Every entry is 0 to 5 or 15"
 unfoldable pub rule2 : Chip → Entry → Bool
 rule2 chip e = proper chip e
 
@@ -81,8 +81,8 @@ rule3 chip rom ReadsTable e = eqb (length rom) (2 ^ 10) && atMost (chip .levels 
 rule3 chip rom StandsBy e = true
 rule3 chip rom Barred e = false
 
--- 4: except after BR, RET and RETSK next has the same level; after a skip the word after next has it too; BR's target has it.
--- What is barred breaks rule 3 already.
+-- 4: next has the word's level, but not after BR, RET and RETSK; after a skip so has the word after next, and after BR its
+-- target. What is barred breaks rule 3 already.
 abbrev pub asks4 : Chip → ℕ → Flow → Entry → List Ask
 asks4 chip w Onward e = record { word = next chip w; entry = e } ∷ []
 asks4 chip w Skips e = record { word = next chip w; entry = e } ∷ record { word = next chip (next chip w); entry = e } ∷ []
@@ -98,8 +98,8 @@ module _ (chip : Chip) (rom depths : List ℕ) where
   abbrev pub rule4 : ℕ → Flow → Entry → Bool
   rule4 w f e = allMet chip rom depths (asks4 chip w f e)
 
-  -- 5: CALL at level 4 or less, the target one higher; where some reached RETSK has that higher level, the word after next
-  -- has CALL's own level
+  -- 5: a CALL leaves a level free, and its target is one higher; if a reached RETSK has that level, the word after next has
+  -- CALL's own
   abbrev pub asks5 : ℕ → ℕ → Entry → List Ask
   asks5 w to e =
       record { word = to; entry = raised e }

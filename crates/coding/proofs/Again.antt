@@ -1,7 +1,6 @@
 -- Each word that is an instruction comes back from its row.
 -- Assumes nothing.
 use mathlib.Core.Path.{_≡_, _∙_, ap, refl}
-use Prim.Native.Nat.{ℕ, _<_}
 use borrow.Author.Tests.{lt-ltb}
 use Rattle.isa.specs.Answers.{Decoding, is, refused}
 use Rattle.isa.specs.Decode.{decodeOf}
@@ -10,7 +9,7 @@ use Rattle.isa.specs.declared.Instruction.{Instruction}
 use Rattle.isa_laws.proofs.RoundTrip.{its-word}
 use Rattle.rows.specs.Listing.{rowOf, firstOf, secondOf, addrOf, listedOf}
 use Rattle.rows.proofs.Rows.{rows, neither}
-use Rattle.coding.specs.Again.{Again, codedAgain}
+use Rattle.coding.specs.Again.{Again}
 use Rattle.coding.specs.Coding.{codedOf, ofEncoding}
 
 -- an instruction's row and operands have its word

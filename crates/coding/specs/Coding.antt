@@ -1,4 +1,4 @@
--- The word of a row of the maker's list (18.3) with its operands.
+-- The word of a row of the manual's list (18.3) with its operands.
 -- Assumes nothing.
 use mathlib.Core.Bool.{cond}
 use Prim.Native.Nat.{ℕ}

@@ -1,4 +1,4 @@
-// From a row of the maker's list (18.3) and its plain operands to the word.
+// From a row of the manual's list (18.3) and its plain operands to the word.
 mod coding;
 
 pub use coding::encode;

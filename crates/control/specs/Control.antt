@@ -2,9 +2,8 @@
 -- Assumes nothing.
 use mathlib.Core.Bool.{Bool, true, false, cond}
 use Prim.Native.Nat.{ℕ, _+_, _-_, _^_}
-use lib.Dec.{eqb, ltb, leb}
+use lib.Dec.{eqb, leb}
 use lib.ListN.{getD, set}
-use Rattle.isa.specs.declared.FixedOp.{FixedOp}
 use Rattle.isa.specs.declared.FixedOp.the-variants.{IncAr, IncIx, Movt, PushAr, PopAr, BrAr, CallAr, Ret, Retsk, Reti, Ei, Di, Nop}
 use Rattle.isa.specs.declared.Instruction.{Instruction}
 use Rattle.isa.specs.declared.Instruction.the-variants.{AluRegister, AluImmediate, Skip, Rorc, Ld, St, MovToIndirect, MovFromIndirect, MovImmediate, Peek, Poke, Get, Put, Br, Call, Stop, Halt, Fixed}
@@ -91,7 +90,7 @@ module _ (chip : Chip) where
   unfoldable pub tableOf : Control → Transfer
   tableOf c = unlessFull c (onwards c)
 
-  -- HALT and STOP move PC on and set standing
+  -- "HALT and STOP move PC on and set standing"
   unfoldable pub standbyOf : Control → Transfer
   standbyOf c = goes (marked (c .skip) true (onwards c))
 

@@ -1,6 +1,6 @@
 -- The phases of a step, one law for each way through them.
 -- Assumes nothing.
-use mathlib.Core.Path.{_≡_, _∙_, ap, refl, sym, subst}
+use mathlib.Core.Path.{_≡_, _∙_, ap, refl, sym}
 use mathlib.Core.Bool.{Bool, true, false, _&&_, cond}
 use mathlib.Core.List.{List}
 use Prim.Native.Nat.{ℕ}
@@ -9,12 +9,11 @@ use lib.Dec.{eqb, leb}
 use lib.ListN.{getD, length}
 use Rattle.isa.specs.Answers.{Decoding, is, refused as undecoded}
 use Rattle.isa.specs.Decode.{decodeOf}
-use Rattle.isa.specs.declared.FixedOp.{FixedOp}
 use Rattle.isa.specs.declared.FixedOp.the-variants.{IncAr, IncIx, Movt, PushAr, PopAr, BrAr, CallAr, Ret, Retsk, Reti, Ei, Di, Nop}
 use Rattle.isa.specs.declared.Instruction.{Instruction}
 use Rattle.isa.specs.declared.Instruction.the-variants.{AluRegister, AluImmediate, Skip, Rorc, Ld, St, MovToIndirect, MovFromIndirect, MovImmediate, Peek, Poke, Get, Put, Br, Call, Stop, Halt, Fixed}
 use Rattle.memory.specs.Chip.{Chip}
-use Rattle.execution.specs.Reply.{Reply, done, inStandby, refused, Step}
+use Rattle.execution.specs.Reply.{inStandby, refused, Step}
 use Rattle.machine.specs.Refusals.{numberOf}
 use Rattle.registers.specs.Registers.{arOf}
 use Rattle.control.specs.Control.{Transfer, controlOf, marked}
@@ -24,9 +23,8 @@ use Rattle.control.specs.Moves.{withStack}
 use Rattle.execution.specs.Inside.{wholeOf, executedOf}
 use Rattle.cpu.specs.Inside.{fetchedOf}
 use Rattle.execution.specs.Execute.{denied, completed, dataOf, writtenOf, pastTable, executeOf}
-use Rattle.cpu.specs.Step.{woken, leaving, inBase, runnable, runsOf, decodedOf, passOver, fetchOf, advanceOf}
+use Rattle.cpu.specs.Step.{woken, leaving, inBase, runnable, decodedOf, passOver, fetchOf, advanceOf}
 use Rattle.machine.specs.declared.Control.{Control}
-use Rattle.cpu.specs.declared.Fetched.{Fetched}
 use Rattle.cpu.specs.declared.Fetched.the-variants.{Word, Past}
 use Rattle.machine.specs.declared.Input.{Input}
 use Rattle.machine.specs.declared.Machine.{Machine}

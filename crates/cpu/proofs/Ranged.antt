@@ -1,6 +1,6 @@
 -- A machine in range stays so under every step.
 -- Assumes nothing.
-use mathlib.Core.Path.{_≡_, _∙_, ap, refl, sym}
+use mathlib.Core.Path.{_≡_, refl}
 use mathlib.Core.Bool.{Bool, true, false, _&&_, cond}
 use mathlib.Core.List.{List}
 use Prim.Native.Nat.{ℕ, _^_, _<_, _≤_}
@@ -9,7 +9,6 @@ use borrow.Author.Tests.{leb-false, eqb-false}
 use lib.Dec.{eqb, leb}
 use lib.ListN.{getD, length}
 use Rattle.isa.specs.Answers.{Decoding, is, refused as undecoded}
-use Rattle.isa.specs.declared.FixedOp.{FixedOp}
 use Rattle.isa.specs.declared.FixedOp.the-variants.{IncAr, IncIx, Movt, PushAr, PopAr, BrAr, CallAr, Ret, Retsk, Reti, Ei, Di, Nop}
 use Rattle.isa.specs.declared.Instruction.{Instruction}
 use Rattle.isa.specs.declared.Instruction.the-variants.{AluRegister, AluImmediate, Skip, Rorc, Ld, St, MovToIndirect, MovFromIndirect, MovImmediate, Peek, Poke, Get, Put, Br, Call, Stop, Halt, Fixed}
@@ -19,11 +18,11 @@ use Rattle.memory.specs.Range.{cellsInRange}
 use Rattle.registers.specs.Registers.{arOf}
 use Rattle.memory.proofs.Writes.{ranged}
 use Rattle.execution.specs.Reply.{Reply, done, inStandby, refused, Step}
-use Rattle.control.specs.Control.{Transfer, goes, denies, jump, marked, push, pop, top, next, onwards, unlessFull, unlessEmpty, inReach, controlOf, branchOf, callOf, returnOf, pushOf, popOf, tableOf, standbyOf, onwardOf}
+use Rattle.control.specs.Control.{Transfer, goes, denies, jump, marked, push, pop, top, next, onwards, unlessFull, unlessEmpty, controlOf, branchOf, callOf, returnOf, pushOf, popOf, tableOf, standbyOf, onwardOf}
 use Rattle.data.specs.Data.{skipsOf, writesOf}
 use Rattle.machine.specs.Parts.{cellsOf, machineOf}
-use Rattle.machine.specs.Ranges.{places, controlInRange, machineInRange, allInRange}
-use Rattle.execution.specs.Execute.{denied, completed, dataOf, pastTable, writtenOf, settleOf, executeOf}
+use Rattle.machine.specs.Ranges.{places, machineInRange, allInRange}
+use Rattle.execution.specs.Execute.{denied, completed, dataOf, pastTable, writtenOf, executeOf}
 use Rattle.cpu.specs.Step.{woken, leaving, runsOf, decodedOf, passOver, fetchOf, advanceOf, stepOf}
 use Rattle.machine.specs.declared.Control.{Control}
 use Rattle.machine.specs.declared.Input.{Input}

@@ -1,10 +1,10 @@
 -- A counted run: document 01, "A run takes one input record and a budget of 0 to 65,535 steps".
 -- Assumes nothing.
-use mathlib.Core.Bool.{Bool, true, false, _&&_, cond}
+use mathlib.Core.Bool.{_&&_, cond}
 use mathlib.Core.List.{List}
 use Prim.Native.Nat.{ℕ, zero, suc, _+_}
 use Rattle.memory.specs.Chip.{Chip}
-use Rattle.execution.specs.Reply.{Reply, done, inStandby, refused, Step}
+use Rattle.execution.specs.Reply.{Reply, done, inStandby, refused}
 use Rattle.cpu.specs.Answers.{costOf, Run}
 use Rattle.control.specs.Control.{isStandby}
 use Rattle.machine.specs.Ranges.{allInRange, budgetInRange}

@@ -87,8 +87,8 @@ module _ (chip : Chip) (rom : List ℕ) (input : Input) where
       (denied 2 m)
       (cond (m .control .skip) (passOver m) (decodedOf m (runsOf (getD rom (m .control .pc) 0))))
 
-  -- a standing step with release 0 changes nothing and answers "standing"; with release 1 it clears that mark and steps
-  -- as usual; release is ignored otherwise
+  -- a standing step with release 0 leaves the record and answers "standing"; with release 1 the mark goes, and the step is as
+  -- any other; elsewhere release does not count
   unfoldable pub advanceOf : Machine → Step
   advanceOf m =
       cond (isStandby (m .control) && eqb (input .release) 0)

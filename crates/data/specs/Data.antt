@@ -1,7 +1,7 @@
 -- What an instruction reads and writes, and whether it skips: document 01, "Results". The writes are a list, in order;
 -- which cells are in it, even where a value stays, is document 02's E7.
 -- Assumes nothing.
-use mathlib.Core.Bool.{Bool, true, false, cond}
+use mathlib.Core.Bool.{Bool, false, cond}
 use mathlib.Core.List.{List, [], _∷_}
 use Prim.Native.Nat.{ℕ}
 use lib.Dec.{eqb}
@@ -9,7 +9,6 @@ use Rattle.isa.specs.declared.AluOp.{AluOp}
 use Rattle.isa.specs.declared.AluOp.the-variants.{Add, AddC, Sub, SubC, Or, And, Xor}
 use Rattle.isa.specs.declared.SkipOp.{SkipOp}
 use Rattle.isa.specs.declared.SkipOp.the-variants.{Skt, Skf, Ske, Skne, Skge, Sklt}
-use Rattle.isa.specs.declared.FixedOp.{FixedOp}
 use Rattle.isa.specs.declared.FixedOp.the-variants.{IncAr, IncIx, Movt, PushAr, PopAr, BrAr, CallAr, Ret, Retsk, Reti, Ei, Di, Nop}
 use Rattle.isa.specs.declared.Instruction.{Instruction}
 use Rattle.isa.specs.declared.Instruction.the-variants.{AluRegister, AluImmediate, Skip, Rorc, Ld, St, MovToIndirect, MovFromIndirect, MovImmediate, Peek, Poke, Get, Put, Br, Call, Stop, Halt, Fixed}
@@ -35,7 +34,7 @@ module _ (cells : List ℕ) where
   unfoldable pub flagsAfter : Outcome → ℕ
   flagsAfter o = withFlag (withFlag psw CY (o .carry)) Z (zeroOf (flag CMP) (flag Z) (o .result))
 
-  -- CMP 1: the result is not stored. CMP 0 and destination 7FH: it is stored and CY and Z get nothing more.
+  -- with CMP set the result goes nowhere; with CMP clear and 7FH for its place it is stored, and CY and Z are left at that
   unfoldable pub arithmeticWrites : ℕ → Outcome → List Write
   arithmeticWrites at o =
       cond (flag CMP)
@@ -44,7 +43,7 @@ module _ (cells : List ℕ) where
       ((PSW ↤ o .result) ∷ [])
       ((at ↤ o .result) ∷ (PSW ↤ flagsAfter o) ∷ []))
 
-  -- AND, OR and XOR touch no flag except by writing to its cell
+  -- AND, OR and XOR change a flag only where they write its cell
   unfoldable pub resultWrites : AluOp → ℕ → Outcome → List Write
   resultWrites Add at o = arithmeticWrites at o
   resultWrites AddC at o = arithmeticWrites at o

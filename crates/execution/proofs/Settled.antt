@@ -1,7 +1,7 @@
 -- From what the control functions and the data functions answer to the step of an instruction.
 -- Assumes nothing.
 use mathlib.Core.Path.{_≡_, _∙_, ap, refl, sym, subst}
-use mathlib.Core.Bool.{Bool, true, false}
+use mathlib.Core.Bool.{true, false}
 use mathlib.Core.List.{List}
 use Prim.Native.Nat.{ℕ}
 use native.Mathlib.Omega.{arith}
@@ -9,14 +9,13 @@ use lib.Dec.{eqb}
 use Rattle.isa.specs.declared.Instruction.{Instruction}
 use Rattle.memory.specs.Chip.{Chip}
 use Rattle.registers.specs.Registers.{arOf}
-use Rattle.execution.specs.Reply.{Step}
 use Rattle.machine.specs.Refusals.{numberOf}
 use Rattle.control.specs.Control.{Transfer, goes, denies, controlOf}
 use Rattle.data.specs.Data.{skipsOf}
 use Rattle.control.specs.Moves.{transferOf, withStack}
 use Rattle.execution.specs.Inside.{executedOf, wholeOf}
 use Rattle.machine.specs.Parts.{machineOf}
-use Rattle.execution.specs.Execute.{executeOf, settleOf, writtenOf, pastTable, dataOf, completed, denied}
+use Rattle.execution.specs.Execute.{executeOf, writtenOf, pastTable, dataOf, completed, denied}
 use Rattle.machine.specs.declared.Control.{Control}
 use Rattle.machine.specs.declared.Input.{Input}
 use Rattle.machine.specs.declared.Machine.{Machine}

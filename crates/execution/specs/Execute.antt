@@ -1,12 +1,11 @@
 -- What an instruction makes of the record: control first, then refusal 8, then the writes. A refusal leaves the record as it
 -- came.
 -- Assumes nothing.
-use mathlib.Core.Bool.{Bool, true, false, cond}
+use mathlib.Core.Bool.{Bool, false, cond}
 use mathlib.Core.List.{List}
 use Prim.Native.Nat.{ℕ}
 use lib.Dec.{eqb, leb}
 use lib.ListN.{getD, length}
-use Rattle.isa.specs.declared.FixedOp.{FixedOp}
 use Rattle.isa.specs.declared.FixedOp.the-variants.{IncAr, IncIx, Movt, PushAr, PopAr, BrAr, CallAr, Ret, Retsk, Reti, Ei, Di, Nop}
 use Rattle.isa.specs.declared.Instruction.{Instruction}
 use Rattle.isa.specs.declared.Instruction.the-variants.{AluRegister, AluImmediate, Skip, Rorc, Ld, St, MovToIndirect, MovFromIndirect, MovImmediate, Peek, Poke, Get, Put, Br, Call, Stop, Halt, Fixed}
@@ -18,7 +17,7 @@ use Rattle.machine.specs.Parts.{cellsOf, withCells, withControl}
 use Rattle.machine.specs.declared.Input.{Input}
 use Rattle.machine.specs.declared.Machine.{Machine}
 use Rattle.control.specs.Control.{Transfer, controlOf, top}
-use Rattle.execution.specs.Reply.{Reply, done, refused, Step}
+use Rattle.execution.specs.Reply.{done, refused, Step}
 
 abbrev pub denied : ℕ → Machine → Step
 denied n m = record { reply = refused n; machine = m }

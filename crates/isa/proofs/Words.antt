@@ -1,7 +1,7 @@
 -- The list's words (18.3) by family, as the encoder makes them.
 -- Assumes nothing.
 use mathlib.Core.Path.{_≡_, refl}
-use Prim.Native.Nat.{ℕ, _+_, _*_, _/_, _%_}
+use Prim.Native.Nat.{ℕ, _+_, _*_}
 use native.Mathlib.Omega.{arith}
 use Rattle.isa.specs.declared.AluOp.{AluOp}
 use Rattle.isa.specs.declared.AluOp.the-variants.{Add, AddC, Sub, SubC, Or, And, Xor}

@@ -7,9 +7,7 @@ use mathlib.Core.List.{List, [], _∷_}
 use lib.Dec.{eqb}
 use lib.ListN.{getD}
 use Rattle.isa.specs.Answers.{Decoding, is, refused}
-use Rattle.isa.specs.declared.AluOp.{AluOp}
 use Rattle.isa.specs.declared.AluOp.the-variants.{Add, AddC, Sub, SubC, Or, And, Xor}
-use Rattle.isa.specs.declared.SkipOp.{SkipOp}
 use Rattle.isa.specs.declared.SkipOp.the-variants.{Skt, Skf, Ske, Skne, Skge, Sklt}
 use Rattle.isa.specs.declared.FixedOp.{FixedOp}
 use Rattle.isa.specs.declared.FixedOp.the-variants.{IncAr, IncIx, Movt, PushAr, PopAr, BrAr, CallAr, Ret, Retsk, Reti, Ei, Di, Nop}

@@ -1,7 +1,7 @@
 // From a word to its instruction: a decision over the 32 opcodes and over the sub-words of opcode 7.
 ghost use mathlib.Core.Path.{_≡_};
 ghost use Prim.Native.Nat.{_/_, _%_, _<_};
-ghost use Rattle.isa.specs.Answers.{decodingOf};
+ghost use Rattle.isa.specs.Answers.{decodingOf, is};
 ghost use Rattle.isa.specs.Decode.{decodeOf, groupOf};
 ghost use Rattle.isa.specs.Encode.{aluCode};
 use crate::AluOp;
@@ -25,6 +25,13 @@ fn alu_op(code: u16) -> AluOp
     }
 }
 
+// An instruction without operand.
+fn fixed(op: FixedOp) -> Decoded
+    ensures { λ r. ⌜ decodingOf r ≡ is (Instruction.Fixed op) ⌝ }
+{
+    Decoded::Instruction(Instruction::Fixed(op))
+}
+
 // The words of opcode 7. PEEK, POKE, GET and PUT have their column alone fixed; of the others the whole sub-word, the
 // low eleven bits, but for the operand of RORC, STOP and HALT.
 fn group_word(word: u16) -> Decoded
@@ -38,22 +45,22 @@ fn group_word(word: u16) -> Decoded
         0b1010 => Decoded::Instruction(Instruction::Put(p)),
         0b1011 => Decoded::Instruction(Instruction::Get(p)),
         _ => match word % 2048 {
-            0b000_0001_0000 => Decoded::Instruction(Instruction::Fixed(FixedOp::Movt)),
-            0b000_0100_0000 => Decoded::Instruction(Instruction::Fixed(FixedOp::BrAr)),
-            0b000_0101_0000 => Decoded::Instruction(Instruction::Fixed(FixedOp::CallAr)),
+            0b000_0001_0000 => fixed(FixedOp::Movt),
+            0b000_0100_0000 => fixed(FixedOp::BrAr),
+            0b000_0101_0000 => fixed(FixedOp::CallAr),
             0b000_0111_0000..=0b000_0111_1111 => Decoded::Instruction(Instruction::Rorc(x)),
-            0b000_1000_0000 => Decoded::Instruction(Instruction::Fixed(FixedOp::IncIx)),
-            0b000_1001_0000 => Decoded::Instruction(Instruction::Fixed(FixedOp::IncAr)),
-            0b000_1100_0000 => Decoded::Instruction(Instruction::Fixed(FixedOp::PopAr)),
-            0b000_1101_0000 => Decoded::Instruction(Instruction::Fixed(FixedOp::PushAr)),
-            0b000_1110_0000 => Decoded::Instruction(Instruction::Fixed(FixedOp::Ret)),
-            0b001_1110_0000 => Decoded::Instruction(Instruction::Fixed(FixedOp::Retsk)),
-            0b100_1110_0000 => Decoded::Instruction(Instruction::Fixed(FixedOp::Reti)),
-            0b000_1111_0000 => Decoded::Instruction(Instruction::Fixed(FixedOp::Ei)),
-            0b001_1111_0000 => Decoded::Instruction(Instruction::Fixed(FixedOp::Di)),
+            0b000_1000_0000 => fixed(FixedOp::IncIx),
+            0b000_1001_0000 => fixed(FixedOp::IncAr),
+            0b000_1100_0000 => fixed(FixedOp::PopAr),
+            0b000_1101_0000 => fixed(FixedOp::PushAr),
+            0b000_1110_0000 => fixed(FixedOp::Ret),
+            0b001_1110_0000 => fixed(FixedOp::Retsk),
+            0b100_1110_0000 => fixed(FixedOp::Reti),
+            0b000_1111_0000 => fixed(FixedOp::Ei),
+            0b001_1111_0000 => fixed(FixedOp::Di),
             0b010_1111_0000..=0b010_1111_1111 => Decoded::Instruction(Instruction::Stop(x)),
             0b011_1111_0000..=0b011_1111_1111 => Decoded::Instruction(Instruction::Halt(x)),
-            0b100_1111_0000 => Decoded::Instruction(Instruction::Fixed(FixedOp::Nop)),
+            0b100_1111_0000 => fixed(FixedOp::Nop),
             _ => Decoded::Nothing,
         },
     }

@@ -1,7 +1,7 @@
 -- A word that is an instruction is that instruction's word: tested at each of the 65,536 words.
 -- Assumes nothing.
 use mathlib.Core.Path.{_≡_, subst}
-use mathlib.Core.Bool.{Bool, true, false, _&&_}
+use mathlib.Core.Bool.{Bool, true, _&&_}
 use Prim.Native.Nat.{ℕ, _<_}
 use lib.Dec.{T, eqb, eqb→eq}
 use Rattle.laws.proofs.Every.{every-at, and-left, and-right, holds}

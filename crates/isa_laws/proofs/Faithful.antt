@@ -3,7 +3,7 @@
 use mathlib.Core.Path.{_≡_, refl, ap}
 use Prim.Native.Nat.{ℕ}
 use native.Mathlib.Omega.{arith}
-use Rattle.isa.specs.Answers.{Decoding, is, refused, Encoding, decodingOf, encodingOf}
+use Rattle.isa.specs.Answers.{Encoding, decodingOf, encodingOf}
 use Rattle.isa_laws.specs.Faithful.{Faithful}
 use Rattle.isa.specs.declared.Decoded.{Decoded}
 use Rattle.isa.specs.declared.Decoded.the-variants as decoded

@@ -1,6 +1,6 @@
 -- The word of an instruction whose operands fit has 16 bits and decodes to the instruction.
 -- Assumes nothing.
-use mathlib.Core.Path.{_≡_, refl, sym, ap, _∙_}
+use mathlib.Core.Path.{_≡_, refl, sym, _∙_}
 use mathlib.Core.Bool.{Bool, true, false, _&&_}
 use Prim.Native.Nat.{ℕ, _+_, _*_, _/_, _%_, _<_}
 use native.Mathlib.Omega.{arith}
@@ -9,7 +9,7 @@ use lib.Dec.{ltb, lit<}
 use mathlib.Core.List.{[]}
 use lib.ListN.{getD}
 use Rattle.isa.specs.Answers.{Decoding, is}
-use Rattle.isa.specs.Decode.{Column, decodeOf, entryOf, overview, columns, rows}
+use Rattle.isa.specs.Decode.{decodeOf, entryOf, overview, columns, rows}
 use Rattle.isa.specs.Encode.{wordOf, fits, code, addressed, jump, filed, aluCode, skipCode}
 use Rattle.isa.specs.declared.AluOp.{AluOp}
 use Rattle.isa.specs.declared.AluOp.the-variants.{Add, AddC, Sub, SubC, Or, And, Xor}

@@ -1,10 +1,10 @@
 -- The three theorems of specs/RoundTrip.antt.
 -- Assumes nothing.
-use mathlib.Core.Path.{_≡_, refl, ap, sym, subst, _∙_}
+use mathlib.Core.Path.{_≡_, refl, ap, sym, subst}
 use mathlib.Core.Bool.{Bool, true, false}
 use Prim.Native.Nat.{ℕ, _<_}
 use native.Mathlib.Omega.{arith}
-use Rattle.isa.specs.Answers.{Decoding, Encoding, is, refused}
+use Rattle.isa.specs.Answers.{Encoding, is, refused}
 use Rattle.isa.specs.Decode.{decodeOf}
 use Rattle.isa.specs.Encode.{wordOf, encodeOf, fits, fitted}
 use Rattle.isa_laws.specs.RoundTrip.{IsWordOf, OneWord, Its, RoundTrip}

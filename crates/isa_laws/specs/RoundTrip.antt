@@ -3,9 +3,9 @@
 use mathlib.Core.Path.{_≡_}
 use mathlib.Core.Bool.{true}
 use Prim.Native.Nat.{ℕ, _<_}
-use Rattle.isa.specs.Answers.{Encoding, is, refused}
+use Rattle.isa.specs.Answers.{is, refused}
 use Rattle.isa.specs.Decode.{decodeOf}
-use Rattle.isa.specs.Encode.{wordOf, encodeOf, fits}
+use Rattle.isa.specs.Encode.{encodeOf, fits}
 use Rattle.isa.specs.declared.Instruction.{Instruction}
 
 -- the word of an instruction: what the encoder answers, with no refusal

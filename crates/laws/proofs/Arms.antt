@@ -8,7 +8,7 @@ use native.Mathlib.Omega.{arith}
 use mathlib.Core.Logic.{_⊎_, ⊎-elim}
 use mir.Val.{hasKey}
 use types.Run.{OneOf, hit}
-use lib.Dec.{T, ltb, leb, ltb→lt, leb→le}
+use lib.Dec.{T, leb, leb→le}
 use Rattle.laws.specs.Every.{every}
 use Rattle.laws.proofs.Every.{every-at, and-left, and-right}
 

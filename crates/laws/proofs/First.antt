@@ -1,14 +1,14 @@
 -- What the first failure of a test is, and when there is none.
 -- Assumes nothing.
-use mathlib.Core.Path.{_≡_, _∙_, ap, refl, sym, subst}
+use mathlib.Core.Path.{_≡_, _∙_, refl, sym, subst}
 use mathlib.Core.Bool.{Bool, true, false, cond}
 use mathlib.Core.Logic.{⊎-elim}
 use Prim.Native.Nat.{ℕ, zero, suc, _+_, _<_, _≤_}
-use native.Mathlib.Nat.{add-zero, suc-add, add-suc, eq-or-lt-of-le}
+use native.Mathlib.Nat.{suc-add, add-suc, eq-or-lt-of-le}
 use native.Mathlib.Omega.{arith}
 use borrow.Author.Tests.{ltb-true, ltb-false}
 use lib.Dec.{ltb}
-use Rattle.laws.specs.First.{firstFrom, firstFalse}
+use Rattle.laws.specs.First.{firstFrom}
 
 module _ (f : ℕ → Bool) where
   -- the test passes at each number from k up to j

@@ -1,7 +1,7 @@
 -- What `layout_fill` puts into each field. The fields of a struct count down from the largest number of their width (in the
 -- second struct, from half of it), so that each value tells its field, its place and its width.
 -- Assumes nothing.
-use mathlib.Core.List.{List, [], _∷_}
+use mathlib.Core.List.{[], _∷_}
 use Prim.Native.Nat.{ℕ, _-_}
 use lib.ListN.{replicate, set}
 use Rattle.records.specs.declared.Inputs.{Inputs}

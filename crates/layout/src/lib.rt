@@ -1,5 +1,5 @@
 // Where the library puts the fields of the structs of include/pollwezen.h: numbers that tell the fields apart, for
-// tests/header.c and compare/ to find.
+// tests/layout.c and compare/ to find.
 ghost use mathlib.Core.Path.{_≡_};
 ghost use Prim.Native.Nat.{_≤_};
 ghost use Rattle.layout.specs.Laid.{checkOf, codeOf, countOf, inputOf, laidOf, listingOf, outputOf, recordOf, reportOf};

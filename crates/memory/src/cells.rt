@@ -3,7 +3,7 @@ ghost use mathlib.Core.Path.{_≡_};
 ghost use Rattle.memory.specs.Cells.{isSet, withFlag};
 ghost use Rattle.memory.specs.Chip.{upd17132};
 ghost use Rattle.memory.specs.Read.{readOf, mixOf};
-ghost use Rattle.memory.specs.Write.{writeOf, keptOf};
+ghost use Rattle.memory.specs.Write.{writeOf};
 use crate::Memory;
 use crate::masks::mask;
 

@@ -1,4 +1,4 @@
--- From the check's promises to those of its export.
+-- From the check's promises to those of its C entry.
 -- Assumes nothing.
 use mathlib.Core.Path.{_≡_, _∙_, ap, refl, sym}
 use mathlib.Core.List.{List}

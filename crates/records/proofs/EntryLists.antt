@@ -1,7 +1,6 @@
 -- A list of calls in any form is the list of the same calls on the machine, so demand 3 holds of it.
 -- Assumes nothing.
 use mathlib.Core.Path.{_≡_, _∙_, ap, refl, sym, subst}
-use mathlib.Core.Bool.{true}
 use mathlib.Core.List.{List, [], _∷_}
 use mathlib.Core.Logic.{_⊎_, ⊎-elim}
 use Prim.Native.Nat.{ℕ}
@@ -11,11 +10,11 @@ use Rattle.cpu.specs.Answers.{refusalOf}
 use Rattle.cpu.specs.InPlace.{stepInPlaceOf}
 use Rattle.machine.specs.Parts.{resetMachine}
 use Rattle.machine.specs.declared.Machine.{Machine}
-use Rattle.clearance.specs.Calls.{Call, Tally, noCalls, ownInRange, refusalAt, tallyAfter}
+use Rattle.clearance.specs.Calls.{Call, Tally, noCalls, refusalAt, tallyAfter}
 use Rattle.clearance.specs.Calls as calls
 use Rattle.clearance.specs.Safe.{Moment, Allowed, During, Good, Safe}
 use Rattle.numbers.specs.Numbers.{stepNumber}
-use Rattle.records.specs.Records.{machineOf, recordOf, inputOf, Faithful, Follows}
+use Rattle.records.specs.Records.{machineOf, recordOf, inputOf}
 use Rattle.records.specs.SafeEntries.{EntryCall, step, run, inside, asCall, refusalIn, refusalBy, leftBy, AllowedEntry, GoodEntries, SafeEntries}
 use Rattle.records.specs.declared.Numbered.{Numbered}
 use Rattle.records.specs.declared.Record.{Record}

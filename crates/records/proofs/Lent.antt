@@ -1,16 +1,16 @@
--- From the parts of an export to its definition; what the definitions keep and lose.
+-- From the parts of a C entry to its definition; what the definitions keep and lose.
 -- Assumes nothing.
-use mathlib.Core.Path.{_≡_, _∙_, ap, refl, sym}
+use mathlib.Core.Path.{_≡_, _∙_, ap, refl}
 use mathlib.Core.Bool.{Bool, true, false, _&&_, cond}
 use mathlib.Core.List.{List}
-use Prim.Native.Nat.{ℕ, zero, suc, _<_}
+use Prim.Native.Nat.{ℕ, zero, suc}
 use native.Mathlib.Omega.{arith}
 use lib.Dec.{eqb, leb}
 use Rattle.memory.specs.Chip.{upd17132}
 use borrow.Author.Tests.{leb-true}
 use Rattle.cpu.proofs.Inside.{both}
 use Rattle.execution.specs.Reply.{Reply, done, inStandby, refused, Step}
-use Rattle.cpu.specs.Answers.{replyOf, endOf, Run, stepOfStepped, runOfRan}
+use Rattle.cpu.specs.Answers.{replyOf, endOf, stepOfStepped, runOfRan}
 use Rattle.cpu.specs.Run.{runOf}
 use Rattle.cpu.specs.Step.{stepOf}
 use Rattle.machine.specs.declared.Input.{Input}
@@ -23,7 +23,6 @@ use Rattle.records.specs.Records.{inputOf, machineOf, marksInRange, reco
 use Rattle.records.specs.declared.Inputs.{Inputs}
 use Rattle.records.specs.declared.Numbered.{Numbered}
 use Rattle.records.specs.declared.Record.{Record}
-use Rattle.records.specs.declared.Reported.{Reported}
 
 module _ (rom : List ℕ) (i : Inputs) (r : Record) where
   pub step-refused : marksInRange r ≡ false → numbered 1 r ≡ stepRecordOf rom i r

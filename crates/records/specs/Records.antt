@@ -1,4 +1,4 @@
--- What the exports answer: the definitions of the step and the run, on a record whose marks are bytes.
+-- What the C entries answer: the definitions of the step and the run, on a record whose marks are bytes.
 -- Assumes nothing.
 use mathlib.Core.Path.{_≡_}
 use mathlib.Core.Bool.{Bool, true, _&&_, cond}
@@ -71,7 +71,7 @@ pub record Faithful : Type 0 where
   pub records : (r : Record) → marksInRange r ≡ true → recordOf (machineOf r) ≡ r
   pub machines : (m : Machine) → machineOf (recordOf m) ≡ m
 
--- from the reset record on the exports follow the forms in place
+-- from the reset record on the C entries follow the forms in place
 pub record Follows : Type 0 where
   pub steps : (rom : List ℕ) (i : Inputs) (m : Machine)
       → stepRecordOf rom i (recordOf m) ≡ ofStep (stepInPlaceOf upd17132 rom (inputOf i) m)

@@ -26,7 +26,7 @@ arWrites v = numberWrites AR3 AR2 AR1 AR0 v
 abbrev pub bufferWrites : ℕ → List Write
 bufferWrites v = numberWrites DBF3 DBF2 DBF1 DBF0 v
 
--- INC AR goes from 3FFH to 000H
+-- "INC AR goes from 3FFH to 000H"
 abbrev pub incrementAr : List ℕ → List Write
 incrementAr cells = arWrites (wrapNext 10 (arOf cells))
 

@@ -4,8 +4,7 @@ use mathlib.Core.Path.{_≡_, subst, sym}
 use mathlib.Core.List.{List, [], _∷_}
 use mathlib.Core.Bool.{Bool, true, false, _||_, cond}
 use Prim.Native.Nat.{ℕ, _/_, _%_, _<_, _≤_}
-use lib.Dec.{T, eqb, leb, ltb, eqb→eq, leb→le, ltb→lt}
-use lib.ListN.{getD}
+use lib.Dec.{eqb, leb, ltb, eqb→eq, leb→le, ltb→lt}
 use native.Mathlib.Omega.{arith}
 use Rattle.laws.proofs.Arms.{Rest, hasAny, no-key, or-else, in-rest}
 use Rattle.laws.proofs.Every.{every-at}

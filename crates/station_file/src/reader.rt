@@ -1,7 +1,7 @@
 // The reader.
 ghost use mathlib.Core.Path.{_≡_};
 ghost use Rattle.station_file.specs.Station.{form1};
-ghost use Rattle.station_file.specs.Read.{readOf, Buffers};
+ghost use Rattle.station_file.specs.Read.{readOf};
 ghost use Rattle.station_file.specs.Answers.{buffersOf, readBy};
 ghost use Rattle.station_file.specs.Inside.{layoutFault};
 use crate::Fault;

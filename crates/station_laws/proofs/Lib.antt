@@ -6,5 +6,7 @@ pub mod SectionLaws
 pub mod Whole
 pub mod Faults
 pub mod RoundTrip
+pub mod ReadWrite
+pub mod Checkable
 pub mod Faithful
 pub mod Longer

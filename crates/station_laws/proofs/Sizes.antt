@@ -133,6 +133,11 @@ sheetOn rom b = andThen (sheetSection (length rom) b) (λ (sheet : List ℕ) (c 
 abbrev pub romOn : List ℕ → Reading Station
 romOn a = andThen (romSection a) (λ (rom : List ℕ) (b : List ℕ). sheetOn rom b)
 
+-- the counts of a station that was read
+pub record Counts (s : Station) : Type 0 where
+  pub rom : romCount (length (s .rom)) ≡ true
+  pub sheet : sheetCount (length (s .rom)) (length (s .sheet)) ≡ true
+
 pub sizes : Sizes
 unfolding parseOf
 sizes xs s rest h =
@@ -146,3 +151,17 @@ sizes xs s rest h =
     (small (r .value) (t .value) (i .value) xs (f .left) (r .left) (t .left) (i .left) (two-bytes xs (f .value) (f .left) (p .1))
     (rom-counted (f .left) (r .value) (r .left) (r .first)) (sheet-counted (length (r .value)) (r .left) (t .value) (t .left) (t .first))
     (inputs-counted (t .left) (i .value) (i .left) (i .first)) (e .1))
+
+pub counts : (xs : List ℕ) (s : Station) (rest : List ℕ) → parseOf form1 xs ≡ got s rest → Counts s
+unfolding parseOf
+counts xs s rest h =
+    let f = split (tested (λ (n : ℕ). eqb n 1) 20 (number 2 xs)) (λ (n : ℕ) (a : List ℕ). romOn a) s rest h in
+    let r = split (romSection (f .left)) (λ (rom : List ℕ) (b : List ℕ). sheetOn rom b) s rest (f .second) in
+    let t = split (sheetSection (length (r .value)) (r .left)) (λ (sheet : List ℕ) (c : List ℕ). inputsOn (r .value) sheet c) s rest (r .second) in
+    let i = split (inputSection form1 (t .left)) (λ (inputs : List ℕ) (d : List ℕ). ended (record { rom = r .value; sheet = t .value; inputs = inputs }) d) s rest (t .second) in
+    let e = ends-empty (record { rom = r .value; sheet = t .value; inputs = i .value }) s (i .left) rest (i .second) in
+    let m = rom-counted (f .left) (r .value) (r .left) (r .first) in
+    let n = sheet-counted (length (r .value)) (r .left) (t .value) (t .left) (t .first) in
+    let c : Counts (record { rom = r .value; sheet = t .value; inputs = i .value })
+    = record { rom = ap romCount (m .elements) ∙ m .fine; sheet = ap (sheetCount (length (r .value))) (n .elements) ∙ n .fine } in
+    rw (e .0) at c

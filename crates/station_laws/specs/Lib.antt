@@ -1,4 +1,6 @@
 pub mod RoundTrip
+pub mod ReadWrite
 pub mod Sizes
+pub mod Checkable
 pub mod Faithful
 pub mod Longer

@@ -1,11 +1,10 @@
 -- Document 01: "Reading a written file gives its station; writing a station that was read gives the file's bytes."
 -- Assumes nothing.
 use mathlib.Core.Path.{_≡_}
-use mathlib.Core.Bool.{Bool, true}
+use mathlib.Core.Bool.{true}
 use mathlib.Core.List.{List, []}
 use Prim.Native.Nat.{ℕ, _^_, _<_}
 use lib.Dec.{ltb}
-use lib.ListN.{length}
 use Rattle.station_file.specs.Reading.{Reading, got}
 use Rattle.station_file.specs.Station.{Form, Station, parseOf}
 use Rattle.station_file.specs.Write.{everyAt, renderOf, faultOf}

@@ -1,12 +1,12 @@
 -- An instruction depends on no cell but those that it reads.
 -- Assumes nothing.
-use mathlib.Core.Path.{_≡_, _∙_, ap, ap₂, refl, sym}
-use mathlib.Core.Bool.{Bool, not, cond}
+use mathlib.Core.Path.{_≡_, _∙_, ap, ap₂, refl}
+use mathlib.Core.Bool.{not}
 use mathlib.Core.List.{List}
 use Prim.Native.Nat.{ℕ, _+_, _*_, _/_, _%_}
 use lib.Bits.{bitAnd}
 use lib.Dec.{eqb}
-use Rattle.alu.specs.Results.{operateOf, rotateOf, skipsOf as conditionOf}
+use Rattle.alu.specs.Results.{skipsOf as conditionOf}
 use Rattle.alu.specs.declared.Outcome.{Outcome}
 use Rattle.isa.specs.declared.AluOp.{AluOp}
 use Rattle.isa.specs.declared.AluOp.the-variants.{Add, AddC, Sub, SubC, Or, And, Xor}
@@ -16,14 +16,13 @@ use Rattle.isa.specs.declared.FixedOp.the-variants.{IncAr, IncIx, Movt, PushAr,
 use Rattle.isa.specs.declared.Instruction.{Instruction}
 use Rattle.isa.specs.declared.Instruction.the-variants.{AluRegister, AluImmediate, Skip, Rorc, Ld, St, MovToIndirect, MovFromIndirect, MovImmediate, Peek, Poke, Get, Put, Br, Call, Stop, Halt, Fixed}
 use Rattle.registers.specs.Address.{rowOf, ixOf, addressOf, registerOf, indirectOf}
-use Rattle.memory.specs.Cells.{cellAt, isSet, withFlag}
+use Rattle.memory.specs.Cells.{cellAt, isSet}
 use Rattle.memory.specs.Chip.{Chip}
-use Rattle.memory.specs.Names.{AR3, AR2, AR1, AR0, IXH, IXM, IXL, RPL, PSW, CMP, CY, Z, BCD}
+use Rattle.memory.specs.Names.{IXH, IXM, IXL, RPL, PSW, CMP, CY, Z, BCD}
 use Rattle.memory.specs.Read.{readOf, portOf}
 use Rattle.registers.specs.Registers.{arOf}
-use Rattle.memory.specs.Write.{Write}
 use Rattle.data.specs.Data.{Data, flagsAfter, arithmeticWrites, resultWrites, rotateWrites, skipWrites, aluWrites, writesOf, readsOf, skipsOf}
-use Rattle.step_laws.specs.ReadLaw.{implied, AgreeAt, withOthers, Same, ReadLaw}
+use Rattle.step_laws.specs.ReadLaw.{implied, AgreeAt, withOthers, ReadLaw}
 
 module _ (c o : List ℕ) where
   set-same : (at f : ℕ) → cellAt c at ≡ cellAt o at → isSet c at f ≡ isSet o at f

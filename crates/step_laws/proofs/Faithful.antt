@@ -1,11 +1,10 @@
 -- Different answers differ in document 01's numbers.
 -- Assumes nothing.
 use mathlib.Core.Path.{_≡_, _∙_, refl, ap, sym}
-use mathlib.Core.List.{List, [], _∷_}
+use mathlib.Core.List.{[], _∷_}
 use Prim.Native.Nat.{ℕ, _-_}
 use native.Mathlib.Omega.{arith}
 use lib.ListN.{getD}
-use Rattle.execution.specs.Reply.{Reply, done, inStandby, refused}
 use Rattle.machine.specs.Refusals.{numberOf}
 use Rattle.cpu.specs.Answers.{replyOf, endOf}
 use Rattle.step_laws.specs.Faithful.{Faithful}

@@ -6,7 +6,7 @@ use mathlib.Core.List.{List}
 use Prim.Native.Nat.{ℕ, zero, suc, _+_, _≤_}
 use lib.Dec.{lit≤}
 use Rattle.memory.specs.Chip.{Chip, upd17132}
-use Rattle.execution.specs.Reply.{Reply, done, inStandby, refused, Step}
+use Rattle.execution.specs.Reply.{Reply, done, inStandby, refused}
 use Rattle.cpu.specs.Answers.{costOf, Run}
 use Rattle.control.specs.Control.{isStandby}
 use Rattle.machine.specs.Ranges.{places, machineInRange, allInRange, budgetInRange}

@@ -3,16 +3,16 @@
 use mathlib.Core.Path.{_≡_, _∙_, ap, refl, sym, subst}
 use mathlib.Core.Bool.{Bool, true, false, cond}
 use mathlib.Core.List.{List}
-use mathlib.Core.Logic.{_⊎_, inl, inr, ⊎-elim}
+use mathlib.Core.Logic.{_⊎_, inr, ⊎-elim}
 use Prim.Native.Nat.{ℕ, zero, suc, _+_, _≤_}
-use native.Mathlib.Nat.{add-zero, zero-add, add-assoc, suc-add, add-suc}
+use native.Mathlib.Nat.{add-zero, zero-add, add-assoc, suc-add}
 use native.Mathlib.Omega.{arith}
 use lib.Dec.{lit≤}
 use Rattle.memory.specs.Chip.{Chip, upd17132}
-use Rattle.execution.specs.Reply.{Reply, done, inStandby, refused, Step}
-use Rattle.cpu.specs.Answers.{costOf, refusalOf, Run}
+use Rattle.execution.specs.Reply.{Reply, done, inStandby, refused}
+use Rattle.cpu.specs.Answers.{costOf, Run}
 use Rattle.control.specs.Control.{isStandby}
-use Rattle.machine.specs.Ranges.{places, machineInRange, allInRange}
+use Rattle.machine.specs.Ranges.{places, allInRange}
 use Rattle.cpu.specs.Run.{afterStep, ended, runFrom, runOf}
 use Rattle.cpu.specs.Step.{stepOf}
 use Rattle.execution.specs.Execute.{denied}

@@ -7,7 +7,6 @@ use Prim.Native.Nat.{ℕ}
 use lib.Dec.{eqb}
 use lib.ListN.{getD}
 use Rattle.alu.specs.declared.Outcome.{Outcome}
-use Rattle.alu.specs.Results.{operateOf}
 use Rattle.isa.specs.declared.AluOp.{AluOp}
 use Rattle.isa.specs.declared.AluOp.the-variants.{Add, AddC, Sub, SubC, Or, And, Xor}
 use Rattle.isa.specs.declared.SkipOp.{SkipOp}
@@ -18,7 +17,7 @@ use Rattle.memory.specs.Cells.{isSet}
 use Rattle.memory.specs.Chip.{Chip}
 use Rattle.memory.specs.Names.{PSW, CMP}
 use Rattle.registers.specs.Registers.{arOf}
-use Rattle.memory.specs.Write.{Write, _↤_, touches}
+use Rattle.memory.specs.Write.{Write, touches}
 use Rattle.memory.proofs.Writes.{untouched}
 use Rattle.control.specs.Control.{top}
 use Rattle.data.specs.Data.{Data, arithmeticWrites, resultWrites, rotateWrites, skipWrites, aluWrites, writesOf}

@@ -1,12 +1,11 @@
 -- The input records of a list of bytes.
 -- Assumes nothing.
-use mathlib.Core.Path.{_≡_, _∙_, refl, sym, ap}
-use mathlib.Core.List.{List, [], _∷_, _++_}
+use mathlib.Core.Path.{_≡_}
+use mathlib.Core.List.{List, [], _∷_}
 use Prim.Native.Nat.{ℕ, suc, _+_, _*_, _≤_}
 use native.Mathlib.Omega.{arith}
 use lib.ListN.{length, getD, take, drop}
 use lib.Seq.{drop-cons, drop-drop, getD-drop}
-use Rattle.machine.specs.declared.Input.{Input}
 use Rattle.transcript.specs.Inside.{inputAt}
 
 pub five-of : (xs : List ℕ) (at : ℕ) → at + 5 ≤ length xs

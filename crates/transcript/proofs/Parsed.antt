@@ -1,6 +1,6 @@
 -- What the reader finds in a good file, and what is printed for it.
 -- Assumes nothing.
-use mathlib.Core.Path.{_≡_, _∙_, refl, sym, ap, subst}
+use mathlib.Core.Path.{_≡_, refl, ap}
 use mathlib.Core.Bool.{Bool, true, false, _&&_, _||_, cond}
 use mathlib.Core.List.{List, [], _∷_, _++_}
 use Prim.Native.Nat.{ℕ, zero, suc, _+_, _*_, _/_, _≤_}
@@ -9,9 +9,9 @@ use lib.Dec.{eqb, ltb, leb}
 use lib.ListN.{length, take, drop, replicate, length-append, length-replicate}
 use lib.Seq.{take-append-seam}
 use borrow.Author.Tests.{eqb-true, leb-true, le-leb}
-use Rattle.station_file.specs.Read.{Buffers, Read, Reply, station, denied, fitsIn, filled, overlay, placed, readOf}
+use Rattle.station_file.specs.Read.{Buffers, Read, station, denied, fitsIn, overlay, placed, readOf}
 use Rattle.station_file.specs.Reading.{Reading, got, refused, andThen, tested, number, fields}
-use Rattle.station_file.specs.Station.{Form, Station, form1, recordBytes, romCount, sheetCount, wordField, entryField, inputField, romSection, sheetSection, inputSection, ended, parseOf}
+use Rattle.station_file.specs.Station.{Station, form1, recordBytes, romCount, sheetCount, wordField, entryField, inputField, romSection, sheetSection, inputSection, ended, parseOf}
 use Rattle.transcript.specs.Text.{newline, fileText, decimal}
 use Rattle.transcript.specs.Transcript.{stationText, readText, transcriptOf}
 

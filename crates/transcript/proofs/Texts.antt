@@ -1,9 +1,9 @@
 -- The sheet line and the whole text.
 -- Assumes nothing.
-use mathlib.Core.Path.{_≡_, _∙_, refl, sym, ap}
+use mathlib.Core.Path.{_≡_, refl, ap}
 use mathlib.Core.Bool.{Bool, true, false, cond}
-use mathlib.Core.List.{List, [], _∷_, _++_, append-assoc}
-use Prim.Native.Nat.{ℕ, _+_, _*_, _/_, _<_, _≤_}
+use mathlib.Core.List.{List, _∷_, _++_}
+use Prim.Native.Nat.{ℕ, _+_, _/_, _<_, _≤_}
 use native.Mathlib.Omega.{arith}
 use lib.Dec.{leb}
 use lib.ListN.{length, drop, length-append}
@@ -14,9 +14,9 @@ use Rattle.verifier.specs.Verdict as verdict
 use Rattle.station_file.specs.Read.{overlay}
 use Rattle.station_file.specs.Station.{Station, recordBytes}
 use Rattle.transcript.specs.declared.Told.{Told}
-use Rattle.transcript.specs.Inside.{Wrote, progressWith, upTo, ToldTo}
+use Rattle.transcript.specs.Inside.{Wrote, ToldTo}
 use Rattle.transcript.specs.Text.{space, newline, sheetText, noneText, endText, decimal}
-use Rattle.transcript.specs.Transcript.{Progress, verdictText, sheetLine, endLine, stationText, transcriptOf, Left, printed, denied, printOf}
+use Rattle.transcript.specs.Transcript.{verdictText, sheetLine, endLine, stationText, transcriptOf, Left, printed, denied, printOf}
 use Rattle.transcript.proofs.Puts.{joined, reworded, fitting}
 
 module _ (s : Station) {x y z : List ℕ} {r q : ℕ} where

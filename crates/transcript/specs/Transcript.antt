@@ -8,7 +8,7 @@ use lib.ListN.{getD, length, take, drop}
 use Rattle.text.specs.Hex.{hexDigitsOf}
 use Rattle.memory.specs.Chip.{upd17132}
 use Rattle.memory.specs.Names as names
-use Rattle.execution.specs.Reply.{Reply, done, inStandby, refused, Step}
+use Rattle.execution.specs.Reply.{Reply, done, inStandby, refused}
 use Rattle.machine.specs.Parts.{cellsOf, resetMachine}
 use Rattle.cpu.specs.Step.{stepOf}
 use Rattle.machine.specs.declared.Input.{Input}

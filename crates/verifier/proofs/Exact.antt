@@ -1,22 +1,21 @@
 -- The check passes exactly where there is no refusal and every rule holds at every word.
 -- Assumes nothing.
-use mathlib.Core.Path.{_≡_, _∙_, ap, refl, sym, subst}
+use mathlib.Core.Path.{_≡_, refl, subst}
 use mathlib.Core.Bool.{Bool, true, false, cond}
 use mathlib.Core.List.{List}
-use Prim.Native.Nat.{ℕ, suc, _+_, _-_, _<_, _≤_, zero-le}
+use Prim.Native.Nat.{ℕ, suc, _-_, _<_, _≤_, zero-le}
 use native.Mathlib.Nat.{zero-add}
 use native.Mathlib.Omega.{arith}
-use borrow.Author.Tests.{ltb-true, ltb-false, le-ltb, eqb-true, eq-eqb}
+use borrow.Author.Tests.{ltb-true, ltb-false, eqb-true, eq-eqb}
 use lib.Dec.{eqb, ltb}
 use lib.ListN.{length}
 use Rattle.laws.specs.Every.{every}
-use Rattle.laws.specs.First.{firstFrom, firstFalse}
 use Rattle.laws.proofs.Every.{every-at, every-of, passed, holds}
-use Rattle.laws.proofs.First.{First, first-from, first-is}
+use Rattle.laws.proofs.First.{First, first-from}
 use Rattle.memory.specs.Chip.{Chip}
 use Rattle.machine.specs.Ranges.{romInRange}
 use Rattle.clearance.specs.Rules.{ruleHolds, EveryRule}
-use Rattle.verifier.specs.Verdict.{Answer, pass, fail, refused, wordHolds, lowestWord, lowestRule, ruled, verifyOf, Clear, Exactly}
+use Rattle.verifier.specs.Verdict.{pass, fail, refused, wordHolds, lowestWord, lowestRule, ruled, verifyOf, Clear, Exactly}
 
 module _ (chip : Chip) (rom depths : List ℕ) where
   abbrev W : ℕ → Bool

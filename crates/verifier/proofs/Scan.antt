@@ -1,23 +1,22 @@
 -- The search for the lowest word that breaks a rule, and its lowest rule.
 -- Assumes nothing.
 use mathlib.Core.Path.{_≡_, _∙_, ap, refl, sym, subst}
-use mathlib.Core.Bool.{Bool, true, false, cond}
+use mathlib.Core.Bool.{Bool, true, false}
 use mathlib.Core.List.{List}
 use mathlib.Core.Logic.{⊎-elim}
 use Prim.Native.Nat.{ℕ, zero, suc, _+_, _-_, _<_, _≤_, zero-le}
-use native.Mathlib.Nat.{eq-or-lt-of-le, zero-add, le-of-suc-le-suc, not-suc-le-zero}
+use native.Mathlib.Nat.{eq-or-lt-of-le, zero-add, not-suc-le-zero}
 use native.Mathlib.Omega.{arith}
 use borrow.Author.Tests.{lt-ltb, le-ltb, le-leb, lt-leb, eq-eqb, ne-eqb}
-use lib.Dec.{eqb, ltb, leb}
+use lib.Dec.{ltb}
 use lib.ListN.{length}
-use Rattle.laws.specs.First.{firstFrom}
 use Rattle.laws.proofs.First.{Clear, First, first-is}
 use Rattle.memory.specs.Chip.{Chip, upd17132}
 use Rattle.machine.specs.Ranges.{romInRange}
 use Rattle.flow.specs.declared.Flow.{Flow}
 use Rattle.clearance.specs.Entry.{Entry, reached}
 use Rattle.clearance.specs.Rules.{entryAt, flowAt, ruleOf, ruleHolds}
-use Rattle.verifier.specs.Verdict.{Answer, pass, fail, refused, wordHolds, lowestWord, lowestRule, ruled, verifyOf}
+use Rattle.verifier.specs.Verdict.{pass, fail, refused, wordHolds, lowestWord, lowestRule, ruled, verifyOf}
 use Rattle.verifier.proofs.Exact.{word-holds, rule-holds, not-true}
 
 -- rules 3 to 6 hold at a word that is not reached

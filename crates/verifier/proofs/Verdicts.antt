@@ -2,7 +2,6 @@
 -- Assumes nothing.
 use mathlib.Core.Path.{_≡_, _∙_, refl, ap, sym}
 use mathlib.Core.Bool.{cond}
-use Prim.Native.Nat.{ℕ}
 use lib.Dec.{eqb}
 use Rattle.verifier.specs.Verdict.{Answer, pass, fail, refused, answerOf, Faithful}
 use Rattle.verifier.specs.declared.Verdict.{Verdict}

@@ -3,7 +3,7 @@ ghost use mathlib.Core.Path.{_≡_};
 ghost use mathlib.Core.Bool.{false};
 ghost use mathlib.Core.List.{[], _∷_};
 ghost use Prim.Native.Nat.{ℕ, _<_, _≤_};
-ghost use lib.ListN.{getD, length};
+ghost use lib.ListN.{getD};
 ghost use Rattle.laws.specs.Wrap.{wrapNext};
 ghost use Rattle.memory.specs.Chip.{upd17132};
 ghost use Rattle.clearance.specs.Rules.{allMet, skipReturns, rule1, rule2, rule3, rule4, rule5, rule6, ruleOf};

@@ -1,10 +1,8 @@
-use mathlib.Core.Path.{refl, _∙_, ap, sym}
 use Rattle.execution.proofs.Settled.{completes, misses, refuses}
-use Rattle.memory.specs.Write.{writesApplied}
 use Rattle.control.specs.Control.{controlOf}
 use Rattle.data.specs.Data.{writesOf, skipsOf}
 use Rattle.execution.specs.Execute.{writtenOf, pastTable}
-use borrow.Author.Tests.{le-leb, lt-leb, eq-eqb, ne-eqb}
+use borrow.Author.Tests.{le-leb, lt-leb}
 use borrow.Author.Needs.{needs}
 use Rattle.execution.proofs.movt.Statement.{statement}
 use Rattle.execution.proofs.movt.Tie as tie

@@ -1,5 +1,5 @@
 use mathlib.Core.Path.{refl}
-use Rattle.control.specs.Control.{controlOf, popOf}
+use Rattle.control.specs.Control.{controlOf}
 use Rattle.data.specs.Data.{writesOf, skipsOf}
 use Rattle.execution.specs.Execute.{writtenOf, pastTable}
 use Rattle.execution.proofs.Settled.{completes, refuses}

@@ -3,8 +3,6 @@ use Rattle.rows.specs.Listing.{rowAt, list}
 use Rattle.flow.proofs.RowFlows.{in-range}
 use Rattle.flow.proofs.of_row.Statement.{statement}
 use Rattle.flow.proofs.of_row.Tie as tie
-use Rattle.flow.proofs.of_row.Reads as reads
-use Rattle.flow.proofs.of_row.Lts as lts
 
 -- src/lib.rt:24:1
 returns : tie.Need-returns

@@ -5,10 +5,6 @@ use Rattle.flow.proofs.RowFlows.{unlisted-flow, listed-below, listed-fl
 use borrow.Author.Needs.{needs}
 use Rattle.flow.proofs.of_word.Statement.{statement}
 use Rattle.flow.proofs.of_word.Tie as tie
-use Rattle.flow.proofs.of_word.Reads as reads
-use Rattle.flow.proofs.of_word.Lts as lts
-use Rattle.flow.proofs.of_row.Reads as of-row-reads
-use Rattle.rows.proofs.decode.Reads as decode-reads
 
 -- src/lib.rt:56:9
 decode-requires : tie.Need-decode-requires

@@ -3,9 +3,6 @@ use Rattle.pollwezen.proofs.Verified.{promised}
 use borrow.Author.Needs.{needs}
 use Rattle.pollwezen.proofs.pollwezen_verify.Statement.{statement}
 use Rattle.pollwezen.proofs.pollwezen_verify.Tie as tie
-use Rattle.pollwezen.proofs.pollwezen_verify.Reads as reads
-use Rattle.pollwezen.proofs.pollwezen_verify.Lts as lts
-use Rattle.verifier.proofs.verify.Reads as verify-reads
 
 verify-requires : tie.Need-verify-requires
 verify-requires c κs = search needs

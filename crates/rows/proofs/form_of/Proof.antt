@@ -3,8 +3,6 @@ use Rattle.rows.specs.Inside.{forms}
 use borrow.Author.Needs.{needs}
 use Rattle.rows.proofs.form_of.Statement.{statement}
 use Rattle.rows.proofs.form_of.Tie as tie
-use Rattle.rows.proofs.form_of.Reads as reads
-use Rattle.rows.proofs.form_of.Lts as lts
 
 -- src/lib.rt:83:5
 array-read-result : tie.Need-array-read-result

@@ -4,10 +4,6 @@ use Rattle.coding.specs.Coding.{ofEncoding}
 use borrow.Author.Needs.{needs}
 use Rattle.coding.proofs.coding.coded.Statement.{statement}
 use Rattle.coding.proofs.coding.coded.Tie as tie
-use Rattle.coding.proofs.coding.coded.Reads as reads
-use Rattle.coding.proofs.coding.coded.Lts as lts
-use Rattle.isa.proofs.encode.Reads as encode-reads
-use Rattle.coding.proofs.coding.refused.Reads as refused-reads
 
 -- src/coding.rt:175:11
 encode-requires : tie.Need-encode-requires

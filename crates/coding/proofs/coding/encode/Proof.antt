@@ -3,12 +3,6 @@ use Rattle.coding.specs.Coding.{codedOf}
 use borrow.Author.Needs.{needs}
 use Rattle.coding.proofs.coding.encode.Statement.{statement}
 use Rattle.coding.proofs.coding.encode.Tie as tie
-use Rattle.coding.proofs.coding.encode.Reads as reads
-use Rattle.coding.proofs.coding.encode.Lts as lts
-use Rattle.coding.proofs.coding.coded.Reads as coded-reads
-use Rattle.coding.proofs.coding.instruction_at.Reads as instruction-at-reads
-use Rattle.coding.proofs.coding.is_spare.Reads as is-spare-reads
-use Rattle.coding.proofs.coding.refused.Reads as refused-reads
 
 -- src/coding.rt:190:9
 refused-requires : tie.Need-refused-requires

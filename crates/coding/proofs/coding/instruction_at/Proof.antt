@@ -2,8 +2,6 @@ use Rattle.coding.proofs.Operands.{last-row}
 use Rattle.rows.specs.Listing.{rowAt, list}
 use Rattle.coding.proofs.coding.instruction_at.Statement.{statement}
 use Rattle.coding.proofs.coding.instruction_at.Tie as tie
-use Rattle.coding.proofs.coding.instruction_at.Reads as reads
-use Rattle.coding.proofs.coding.instruction_at.Lts as lts
 
 -- src/coding.rt:15:1
 returns : tie.Need-returns

@@ -1,8 +1,6 @@
 use borrow.Author.Tests.{ne-eqb}
 use Rattle.coding.proofs.coding.is_given.Statement.{statement}
 use Rattle.coding.proofs.coding.is_given.Tie as tie
-use Rattle.coding.proofs.coding.is_given.Reads as reads
-use Rattle.coding.proofs.coding.is_given.Lts as lts
 
 -- src/coding.rt:154:9
 returns : tie.Need-returns

@@ -1,6 +1,5 @@
 use mathlib.Core.Path.{sym, _∙_, ap}
 use mathlib.Core.Bool.{false}
-use mathlib.Core.List.{[]}
 use borrow.Author.Needs.{needs}
 use Rattle.isa.specs.Answers.{decodingOf}
 use Rattle.isa.specs.Decode.{decodeOf}

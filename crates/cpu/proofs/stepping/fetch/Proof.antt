@@ -1,5 +1,4 @@
-use borrow.Author.Tests.{lt-ltb, le-ltb, le-leb, lt-leb, eq-eqb, ne-eqb, not-true, not-false}
-use mathlib.Core.Path.{sym, _∙_}
+use borrow.Author.Tests.{le-leb, lt-leb}
 use borrow.Author.Needs.{needs}
 use Rattle.cpu.proofs.stepping.fetch.Statement.{statement}
 use Rattle.cpu.proofs.stepping.fetch.Tie as tie

@@ -1,4 +1,3 @@
-use borrow.Author.Needs.{needs}
 use Rattle.cpu.proofs.stepping.stays.Statement.{statement}
 use Rattle.cpu.proofs.stepping.stays.Tie as tie
 

@@ -1,6 +1,5 @@
 use Rattle.isa.proofs.Overview.{below-seven}
 use mathlib.Core.Logic.{inl, inr}
-use Prim.Native.Nat.{_/_, _%_}
 use native.Mathlib.Omega.{arith}
 use Rattle.isa.proofs.Overview.{register, immediate, unlisted, op-below}
 use Rattle.isa.specs.Decode.{decodeOf, entryOf, overview}

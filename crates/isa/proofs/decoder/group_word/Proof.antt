@@ -1,6 +1,5 @@
+use mathlib.Core.Path.{_∙_}
 use Rattle.isa.proofs.Group.{gap₁, gap₂, gap₃, gap₄}
-use mathlib.Core.Logic.{inl, inr}
-use native.Mathlib.Omega.{arith}
 use Rattle.isa.proofs.Group.{column-of, row-of, sub-m, sub-x, sixteen, unlisted}
 use Rattle.isa.specs.Decode.{columns}
 use borrow.Author.Needs.{needs}
@@ -18,6 +17,45 @@ cast-p c = search needs
 
 cast-x : tie.Need-cast-x
 cast-x c = search needs
+
+fixed-requires : tie.Need-fixed-requires
+fixed-requires c κs = search needs
+
+fixed-requires-2 : tie.Need-fixed-requires-2
+fixed-requires-2 c κs = search needs
+
+fixed-requires-3 : tie.Need-fixed-requires-3
+fixed-requires-3 c κs = search needs
+
+fixed-requires-4 : tie.Need-fixed-requires-4
+fixed-requires-4 c κs = search needs
+
+fixed-requires-5 : tie.Need-fixed-requires-5
+fixed-requires-5 c κs = search needs
+
+fixed-requires-6 : tie.Need-fixed-requires-6
+fixed-requires-6 c κs = search needs
+
+fixed-requires-7 : tie.Need-fixed-requires-7
+fixed-requires-7 c κs = search needs
+
+fixed-requires-8 : tie.Need-fixed-requires-8
+fixed-requires-8 c κs = search needs
+
+fixed-requires-9 : tie.Need-fixed-requires-9
+fixed-requires-9 c κs = search needs
+
+fixed-requires-10 : tie.Need-fixed-requires-10
+fixed-requires-10 c κs = search needs
+
+fixed-requires-11 : tie.Need-fixed-requires-11
+fixed-requires-11 c κs = search needs
+
+fixed-requires-12 : tie.Need-fixed-requires-12
+fixed-requires-12 c κs = search needs
+
+fixed-requires-13 : tie.Need-fixed-requires-13
+fixed-requires-13 c κs = search needs
 
 returns : tie.Need-returns
 unfolding columns
@@ -37,55 +75,55 @@ returns-4 c = let w = c .before .args .word in rw (column-of w, row-of w, c .mat
 
 returns-5 : tie.Need-returns-5
 unfolding columns
-returns-5 c = let w = c .before .before .args .word in rw (sub-m w, sub-x w, c .match2 .keys1)
+returns-5 c = let w = c .before .before .before .args .word in c .fixed .ensures ∙ rw (sub-m w, sub-x w, c .before .match2 .keys1)
 
 returns-6 : tie.Need-returns-6
 unfolding columns
-returns-6 c = let w = c .before .before .args .word in rw (sub-m w, sub-x w, c .match2 .keys2)
+returns-6 c = let w = c .before .before .before .args .word in c .fixed2 .ensures ∙ rw (sub-m w, sub-x w, c .before .match2 .keys2)
 
 returns-7 : tie.Need-returns-7
 unfolding columns
-returns-7 c = let w = c .before .before .args .word in rw (sub-m w, sub-x w, c .match2 .keys3)
+returns-7 c = let w = c .before .before .before .args .word in c .fixed3 .ensures ∙ rw (sub-m w, sub-x w, c .before .match2 .keys3)
 
 returns-8 : tie.Need-returns-8
 unfolding columns
-returns-8 c = let w = c .before .before .args .word in rw (sub-m w, sub-x w, c .match2 .keys4)
+returns-8 c = let w = c .before .before .before .args .word in c .fixed4 .ensures ∙ rw (sub-m w, sub-x w, c .before .match2 .keys4)
 
 returns-9 : tie.Need-returns-9
 unfolding columns
-returns-9 c = let w = c .before .before .args .word in rw (sub-m w, sub-x w, c .match2 .keys5)
+returns-9 c = let w = c .before .before .before .args .word in c .fixed5 .ensures ∙ rw (sub-m w, sub-x w, c .before .match2 .keys5)
 
 returns-10 : tie.Need-returns-10
 unfolding columns
-returns-10 c = let w = c .before .before .args .word in rw (sub-m w, sub-x w, c .match2 .keys6)
+returns-10 c = let w = c .before .before .before .args .word in c .fixed6 .ensures ∙ rw (sub-m w, sub-x w, c .before .match2 .keys6)
 
 returns-11 : tie.Need-returns-11
 unfolding columns
-returns-11 c = let w = c .before .before .args .word in rw (sub-m w, sub-x w, c .match2 .keys7)
+returns-11 c = let w = c .before .before .before .args .word in c .fixed7 .ensures ∙ rw (sub-m w, sub-x w, c .before .match2 .keys7)
 
 returns-12 : tie.Need-returns-12
 unfolding columns
-returns-12 c = let w = c .before .before .args .word in rw (sub-m w, sub-x w, c .match2 .keys8)
+returns-12 c = let w = c .before .before .before .args .word in c .fixed8 .ensures ∙ rw (sub-m w, sub-x w, c .before .match2 .keys8)
 
 returns-13 : tie.Need-returns-13
 unfolding columns
-returns-13 c = let w = c .before .before .args .word in rw (sub-m w, sub-x w, c .match2 .keys9)
+returns-13 c = let w = c .before .before .before .args .word in c .fixed9 .ensures ∙ rw (sub-m w, sub-x w, c .before .match2 .keys9)
 
 returns-14 : tie.Need-returns-14
 unfolding columns
-returns-14 c = let w = c .before .before .args .word in rw (sub-m w, sub-x w, c .match2 .keys10)
+returns-14 c = let w = c .before .before .before .args .word in c .fixed10 .ensures ∙ rw (sub-m w, sub-x w, c .before .match2 .keys10)
 
 returns-15 : tie.Need-returns-15
 unfolding columns
-returns-15 c = let w = c .before .before .args .word in rw (sub-m w, sub-x w, c .match2 .keys11)
+returns-15 c = let w = c .before .before .before .args .word in c .fixed11 .ensures ∙ rw (sub-m w, sub-x w, c .before .match2 .keys11)
 
 returns-16 : tie.Need-returns-16
 unfolding columns
-returns-16 c = let w = c .before .before .args .word in rw (sub-m w, sub-x w, c .match2 .keys12)
+returns-16 c = let w = c .before .before .before .args .word in c .fixed12 .ensures ∙ rw (sub-m w, sub-x w, c .before .match2 .keys12)
 
 returns-17 : tie.Need-returns-17
 unfolding columns
-returns-17 c = let w = c .before .before .args .word in rw (sub-m w, sub-x w, c .match2 .keys13)
+returns-17 c = let w = c .before .before .before .args .word in c .fixed13 .ensures ∙ rw (sub-m w, sub-x w, c .before .match2 .keys13)
 
 returns-18 : tie.Need-returns-18
 unfolding columns
@@ -125,6 +163,19 @@ group-word-spec =
     add-p
     cast-p
     cast-x
+    fixed-requires
+    fixed-requires-2
+    fixed-requires-3
+    fixed-requires-4
+    fixed-requires-5
+    fixed-requires-6
+    fixed-requires-7
+    fixed-requires-8
+    fixed-requires-9
+    fixed-requires-10
+    fixed-requires-11
+    fixed-requires-12
+    fixed-requires-13
     returns
     returns-2
     returns-3

@@ -1,5 +1,5 @@
 use Rattle.isa.specs.Encode.{wordOf}
-use Rattle.isa.proofs.Words.{register, immediate, skip, side-by-side}
+use Rattle.isa.proofs.Words.{register, immediate, skip}
 use Rattle.isa.specs.Encode.{encodeOf, fits}
 use borrow.Author.Needs.{needs}
 use Rattle.isa.proofs.encoder.encode.Statement.{statement}

@@ -1,4 +1,4 @@
-use borrow.Author.Tests.{lt-ltb, le-ltb, le-leb, lt-leb, eq-eqb, ne-eqb}
+use borrow.Author.Tests.{lt-ltb, le-ltb}
 use Rattle.machine.proofs.ranges.level.Statement.{statement}
 use Rattle.machine.proofs.ranges.level.Tie as tie
 

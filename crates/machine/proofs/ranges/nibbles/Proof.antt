@@ -1,5 +1,5 @@
 use mathlib.Core.Bool.{and-true}
-use borrow.Author.Tests.{lt-ltb, le-ltb, le-leb, lt-leb, eq-eqb, ne-eqb}
+use borrow.Author.Tests.{lt-ltb, le-ltb}
 use borrow.Author.Needs.{needs}
 use Rattle.machine.proofs.ranges.nibbles.Statement.{statement}
 use Rattle.machine.proofs.ranges.nibbles.Tie as tie

@@ -1,5 +1,4 @@
-use borrow.Author.Tests.{lt-ltb, le-ltb, le-leb, lt-leb, eq-eqb, ne-eqb, not-true, not-false}
-use mathlib.Core.Path.{sym, _∙_}
+use borrow.Author.Tests.{lt-ltb}
 use Rattle.machine.specs.Ranges.{romInRange}
 use lib.ListN.{length}
 use native.Mathlib.Omega.{arith}

@@ -4,10 +4,6 @@ use Prim.Native.Nat.{ℕ}
 use lib.Bits.{bitAnd}
 use lib.Dec.{eqb}
 use Rattle.memory.proofs.Ports.{some-cell, no-cell}
-use lib.ListN.{List·getD-eq-default}
-use lib.Bits.{and-zero-l}
-use native.Mathlib.Omega.{arith}
-use mathlib.Core.Path.{refl}
 use Rattle.memory.specs.Cells.{isSet}
 use borrow.Author.Needs.{needs}
 use Rattle.memory.proofs.cells.is_set.Statement.{statement}

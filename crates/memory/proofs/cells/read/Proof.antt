@@ -1,7 +1,6 @@
 use Rattle.memory.proofs.Ports.{some-cell, no-cell}
-use mathlib.Core.Path.{_∙_, sym}
+use mathlib.Core.Path.{_∙_}
 use native.Mathlib.Omega.{arith}
-use lib.ListN.{List·getD-eq-default}
 use Rattle.memory.proofs.Ports.{below-ports, above-ports, at-port}
 use Rattle.memory.specs.Read.{portOf}
 use Rattle.memory.specs.Write.{keptOf}

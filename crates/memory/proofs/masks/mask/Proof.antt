@@ -1,7 +1,6 @@
 use mathlib.Core.Path.{refl, sym}
 use mathlib.Core.Bool.{Bool}
 use Prim.Native.Nat.{ℕ}
-use native.Mathlib.Omega.{arith}
 use lib.Dec.{eqb, eqb→eq}
 use lib.ListN.{getD, List·getD-eq-default}
 use Rattle.laws.proofs.Every.{every-at}

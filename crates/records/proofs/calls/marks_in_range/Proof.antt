@@ -2,8 +2,6 @@ use borrow.Author.Tests.{lt-leb, le-leb}
 use Rattle.records.specs.Records.{marksInRange}
 use Rattle.records.proofs.calls.marks_in_range.Statement.{statement}
 use Rattle.records.proofs.calls.marks_in_range.Tie as tie
-use Rattle.records.proofs.calls.marks_in_range.Reads as reads
-use Rattle.records.proofs.calls.marks_in_range.Lts as lts
 
 returns : tie.Need-returns
 unfolding marksInRange

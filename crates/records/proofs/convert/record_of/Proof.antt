@@ -1,9 +1,6 @@
 use borrow.Author.Needs.{needs}
 use Rattle.records.proofs.convert.record_of.Statement.{statement}
 use Rattle.records.proofs.convert.record_of.Tie as tie
-use Rattle.records.proofs.convert.record_of.Reads as reads
-use Rattle.records.proofs.convert.record_of.Lts as lts
-use Rattle.records.proofs.convert.byte.Reads as byte-reads
 
 byte-requires : tie.Need-byte-requires
 byte-requires c κs = search needs

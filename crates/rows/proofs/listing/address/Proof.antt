@@ -2,8 +2,6 @@ use borrow.Author.Tests.{ne-eqb}
 use Rattle.rows.specs.Inside.{addrIn}
 use Rattle.rows.proofs.listing.address.Statement.{statement}
 use Rattle.rows.proofs.listing.address.Tie as tie
-use Rattle.rows.proofs.listing.address.Reads as reads
-use Rattle.rows.proofs.listing.address.Lts as lts
 
 -- src/listing.rt:107:9
 returns : tie.Need-returns

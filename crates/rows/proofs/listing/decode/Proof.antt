@@ -5,15 +5,6 @@ use Rattle.rows.proofs.Words.{no-row, no-operand, found}
 use borrow.Author.Needs.{needs}
 use Rattle.rows.proofs.listing.decode.Statement.{statement}
 use Rattle.rows.proofs.listing.decode.Tie as tie
-use Rattle.rows.proofs.listing.decode.Reads as reads
-use Rattle.rows.proofs.listing.decode.Lts as lts
-use Rattle.rows.proofs.form_of.Reads as form-of-reads
-use Rattle.rows.proofs.listing.address.Reads as address-reads
-use Rattle.rows.proofs.listing.first_operand.Reads as first-operand-reads
-use Rattle.rows.proofs.listing.is_stray.Reads as is-stray-reads
-use Rattle.rows.proofs.listing.row_of.Reads as row-of-reads
-use Rattle.rows.proofs.listing.second_operand.Reads as second-operand-reads
-use Rattle.rows.proofs.listing.unlisted.Reads as unlisted-reads
 
 -- src/listing.rt:148:9
 row-of-requires : tie.Need-row-of-requires

@@ -3,8 +3,6 @@ use Rattle.rows.proofs.Tables.{no-first}
 use borrow.Author.Needs.{needs}
 use Rattle.rows.proofs.listing.first_operand.Statement.{statement}
 use Rattle.rows.proofs.listing.first_operand.Tie as tie
-use Rattle.rows.proofs.listing.first_operand.Reads as reads
-use Rattle.rows.proofs.listing.first_operand.Lts as lts
 
 -- src/listing.rt:84:14
 cast-result : tie.Need-cast-result

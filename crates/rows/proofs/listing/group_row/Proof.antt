@@ -4,8 +4,6 @@ use Rattle.rows.specs.Inside.{groupRow}
 use Rattle.rows.specs.Listing.{rowOf}
 use Rattle.rows.proofs.listing.group_row.Statement.{statement}
 use Rattle.rows.proofs.listing.group_row.Tie as tie
-use Rattle.rows.proofs.listing.group_row.Reads as reads
-use Rattle.rows.proofs.listing.group_row.Lts as lts
 
 -- src/listing.rt:48:1
 returns : tie.Need-returns

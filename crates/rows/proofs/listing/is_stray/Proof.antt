@@ -2,8 +2,6 @@ use borrow.Author.Tests.{ne-eqb}
 use Rattle.rows.specs.Inside.{stray}
 use Rattle.rows.proofs.listing.is_stray.Statement.{statement}
 use Rattle.rows.proofs.listing.is_stray.Tie as tie
-use Rattle.rows.proofs.listing.is_stray.Reads as reads
-use Rattle.rows.proofs.listing.is_stray.Lts as lts
 
 -- src/listing.rt:130:9
 returns : tie.Need-returns

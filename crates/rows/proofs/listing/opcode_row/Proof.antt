@@ -4,8 +4,6 @@ use Rattle.rows.specs.Inside.{opcodeRow}
 use Rattle.rows.specs.Listing.{rowOf}
 use Rattle.rows.proofs.listing.opcode_row.Statement.{statement}
 use Rattle.rows.proofs.listing.opcode_row.Tie as tie
-use Rattle.rows.proofs.listing.opcode_row.Reads as reads
-use Rattle.rows.proofs.listing.opcode_row.Lts as lts
 
 -- src/listing.rt:11:1
 returns : tie.Need-returns

@@ -3,10 +3,6 @@ use Rattle.rows.specs.Inside.{wordRow}
 use borrow.Author.Needs.{needs}
 use Rattle.rows.proofs.listing.row_of.Statement.{statement}
 use Rattle.rows.proofs.listing.row_of.Tie as tie
-use Rattle.rows.proofs.listing.row_of.Reads as reads
-use Rattle.rows.proofs.listing.row_of.Lts as lts
-use Rattle.rows.proofs.listing.group_row.Reads as group-row-reads
-use Rattle.rows.proofs.listing.opcode_row.Reads as opcode-row-reads
 
 -- src/listing.rt:120:9
 group-row-requires : tie.Need-group-row-requires

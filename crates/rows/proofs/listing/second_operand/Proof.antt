@@ -3,8 +3,6 @@ use Rattle.rows.proofs.Tables.{no-second}
 use borrow.Author.Needs.{needs}
 use Rattle.rows.proofs.listing.second_operand.Statement.{statement}
 use Rattle.rows.proofs.listing.second_operand.Tie as tie
-use Rattle.rows.proofs.listing.second_operand.Reads as reads
-use Rattle.rows.proofs.listing.second_operand.Lts as lts
 
 -- src/listing.rt:98:14
 cast-result : tie.Need-cast-result

@@ -1,4 +1,3 @@
-use native.Mathlib.Omega.{arith}
 use Rattle.transcript.proofs.Puts.{joined, reworded}
 use borrow.Author.Needs.{needs}
 use Rattle.transcript.proofs.line.put_line.Statement.{statement}

@@ -1,6 +1,4 @@
-use mathlib.Core.Path.{_≡_, _∙_, ap, sym}
-use Prim.Native.Nat.{ℕ, _≤_, _<_, _-_}
-use native.Mathlib.Omega.{arith}
+use Prim.Native.Nat.{_≤_, _-_}
 use borrow.Author.Needs.{needs}
 use borrow.Author.Tests.{not-true, not-false}
 use lib.ListN.{length}
@@ -8,12 +6,6 @@ use Rattle.verifier.proofs.Promised.{promised}
 use Rattle.verifier.proofs.Scan.{of-word, RulesTo, WordsTo, no-rule, no-word, rule-more, word-more, empty, long, unlike, passes, fails}
 use Rattle.verifier.proofs.check.verify.Statement.{statement}
 use Rattle.verifier.proofs.check.verify.Tie as tie
-use Rattle.verifier.proofs.check.verify.Reads as reads
-use Rattle.verifier.proofs.check.verify.Lts as lts
-use Rattle.verifier.proofs.rules.holds.Reads as holds-reads
-use Rattle.verifier.proofs.sheet.entry_at.Reads as entry-at-reads
-use Rattle.verifier.proofs.sheet.flow_at.Reads as flow-at-reads
-use Rattle.verifier.proofs.sheet.skip_levels.Reads as skip-levels-reads
 
 abbrev Inv-rules : tie.InvT-rules
 Inv-rules rom depths seen word flow entry rule₀ rule = (1 ≤ rule) × (rule ≤ 7) × RulesTo rom depths word rule

@@ -1,14 +1,10 @@
-use mathlib.Core.Path.{_≡_, _∙_, ap, refl, sym}
-use borrow.Author.Tests.{lt-ltb, le-ltb, le-leb, lt-leb, eq-eqb, ne-eqb, not-true, not-false}
+use mathlib.Core.Path.{_∙_, sym}
+use borrow.Author.Tests.{le-leb, lt-leb, not-true, not-false}
 use Rattle.clearance.proofs.Entries.{and-true}
 use Rattle.clearance.specs.Entry.{atMost, raised}
 use borrow.Author.Needs.{needs}
 use Rattle.verifier.proofs.rules.call_allowed.Statement.{statement}
 use Rattle.verifier.proofs.rules.call_allowed.Tie as tie
-use Rattle.verifier.proofs.rules.call_allowed.Reads as reads
-use Rattle.verifier.proofs.rules.call_allowed.Lts as lts
-use Rattle.memory.proofs.next.Reads as next-reads
-use Rattle.verifier.proofs.sheet.met.Reads as met-reads
 
 -- src/rules.rt:100:9
 returns : tie.Need-returns

@@ -1,4 +1,4 @@
-use mathlib.Core.Path.{_≡_, _∙_, ap, refl, sym}
+use mathlib.Core.Path.{_≡_, _∙_, sym}
 use Rattle.clearance.specs.Rules.{ruleOf}
 use Rattle.verifier.proofs.Scan.{unreached-holds}
 use borrow.Author.Tests.{not-true, not-false}
@@ -6,15 +6,6 @@ use native.Mathlib.Omega.{arith}
 use borrow.Author.Needs.{needs}
 use Rattle.verifier.proofs.rules.holds.Statement.{statement}
 use Rattle.verifier.proofs.rules.holds.Tie as tie
-use Rattle.verifier.proofs.rules.holds.Reads as reads
-use Rattle.verifier.proofs.rules.holds.Lts as lts
-use Rattle.verifier.proofs.rules.rule_1.Reads as rule-1-reads
-use Rattle.verifier.proofs.rules.rule_2.Reads as rule-2-reads
-use Rattle.verifier.proofs.rules.rule_3.Reads as rule-3-reads
-use Rattle.verifier.proofs.rules.rule_4.Reads as rule-4-reads
-use Rattle.verifier.proofs.rules.rule_5.Reads as rule-5-reads
-use Rattle.verifier.proofs.rules.rule_6.Reads as rule-6-reads
-use Rattle.verifier.proofs.sheet.reached.Reads as reached-reads
 
 -- src/rules.rt:170:9
 rule-1-requires : tie.Need-rule-1-requires

@@ -1,11 +1,8 @@
-use mathlib.Core.Path.{_≡_, _∙_, ap, refl, sym}
-use borrow.Author.Tests.{lt-ltb, le-ltb, le-leb, lt-leb, eq-eqb, ne-eqb, not-true, not-false}
+use borrow.Author.Tests.{eq-eqb, ne-eqb}
 use Rattle.clearance.specs.Rules.{rule1}
 use Rattle.clearance.proofs.Entries.{level-zero}
 use Rattle.verifier.proofs.rules.rule_1.Statement.{statement}
 use Rattle.verifier.proofs.rules.rule_1.Tie as tie
-use Rattle.verifier.proofs.rules.rule_1.Reads as reads
-use Rattle.verifier.proofs.rules.rule_1.Lts as lts
 
 -- src/rules.rt:17:9
 returns : tie.Need-returns

@@ -1,13 +1,9 @@
-use mathlib.Core.Path.{_≡_, _∙_, ap, refl, sym}
-use borrow.Author.Tests.{lt-ltb, le-ltb, le-leb, lt-leb, eq-eqb, ne-eqb, not-true, not-false}
+use mathlib.Core.Path.{_∙_, sym}
 use Rattle.clearance.specs.Entry.{proper}
 use Rattle.clearance.specs.Rules.{rule2}
 use borrow.Author.Needs.{needs}
 use Rattle.verifier.proofs.rules.rule_2.Statement.{statement}
 use Rattle.verifier.proofs.rules.rule_2.Tie as tie
-use Rattle.verifier.proofs.rules.rule_2.Reads as reads
-use Rattle.verifier.proofs.rules.rule_2.Lts as lts
-use Rattle.verifier.proofs.sheet.reached.Reads as reached-reads
 
 -- src/rules.rt:26:8
 reached-requires : tie.Need-reached-requires

@@ -1,10 +1,6 @@
-use mathlib.Core.Path.{_≡_, _∙_, ap, refl, sym}
 use borrow.Author.Needs.{needs}
 use Rattle.verifier.proofs.rules.rule_3.Statement.{statement}
 use Rattle.verifier.proofs.rules.rule_3.Tie as tie
-use Rattle.verifier.proofs.rules.rule_3.Reads as reads
-use Rattle.verifier.proofs.rules.rule_3.Lts as lts
-use Rattle.verifier.proofs.rules.table_allowed.Reads as table-allowed-reads
 
 -- src/rules.rt:47:25
 enum-told : tie.Need-enum-told

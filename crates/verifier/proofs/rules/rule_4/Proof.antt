@@ -1,13 +1,8 @@
-use mathlib.Core.Path.{_≡_, _∙_, ap, refl, sym}
+use mathlib.Core.Path.{sym}
 use Rattle.clearance.proofs.Entries.{and-true}
 use borrow.Author.Needs.{needs}
 use Rattle.verifier.proofs.rules.rule_4.Statement.{statement}
 use Rattle.verifier.proofs.rules.rule_4.Tie as tie
-use Rattle.verifier.proofs.rules.rule_4.Reads as reads
-use Rattle.verifier.proofs.rules.rule_4.Lts as lts
-use Rattle.memory.proofs.next.Reads as next-reads
-use Rattle.verifier.proofs.rules.skip_met.Reads as skip-met-reads
-use Rattle.verifier.proofs.sheet.met.Reads as met-reads
 
 -- src/rules.rt:74:9
 next-requires : tie.Need-next-requires

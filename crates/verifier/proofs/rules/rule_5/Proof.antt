@@ -1,10 +1,6 @@
-use mathlib.Core.Path.{_≡_, _∙_, ap, refl, sym}
 use borrow.Author.Needs.{needs}
 use Rattle.verifier.proofs.rules.rule_5.Statement.{statement}
 use Rattle.verifier.proofs.rules.rule_5.Tie as tie
-use Rattle.verifier.proofs.rules.rule_5.Reads as reads
-use Rattle.verifier.proofs.rules.rule_5.Lts as lts
-use Rattle.verifier.proofs.rules.call_allowed.Reads as call-allowed-reads
 
 -- src/rules.rt:127:25
 enum-told : tie.Need-enum-told

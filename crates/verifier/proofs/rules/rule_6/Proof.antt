@@ -1,10 +1,8 @@
-use mathlib.Core.Path.{_≡_, _∙_, ap, refl, sym}
+use mathlib.Core.Path.{refl}
 use Rattle.clearance.specs.Entry.{atLeast}
 use borrow.Author.Needs.{needs}
 use Rattle.verifier.proofs.rules.rule_6.Statement.{statement}
 use Rattle.verifier.proofs.rules.rule_6.Tie as tie
-use Rattle.verifier.proofs.rules.rule_6.Reads as reads
-use Rattle.verifier.proofs.rules.rule_6.Lts as lts
 
 -- src/rules.rt:144:25
 enum-told : tie.Need-enum-told

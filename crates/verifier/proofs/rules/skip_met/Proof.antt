@@ -1,13 +1,9 @@
-use mathlib.Core.Path.{_≡_, _∙_, ap, refl, sym}
-use borrow.Author.Tests.{lt-ltb, le-ltb, le-leb, lt-leb, eq-eqb, ne-eqb, not-true, not-false}
+use mathlib.Core.Path.{_∙_, sym}
+use borrow.Author.Tests.{not-true, not-false}
 use Rattle.clearance.proofs.Entries.{and-true}
 use borrow.Author.Needs.{needs}
 use Rattle.verifier.proofs.rules.skip_met.Statement.{statement}
 use Rattle.verifier.proofs.rules.skip_met.Tie as tie
-use Rattle.verifier.proofs.rules.skip_met.Reads as reads
-use Rattle.verifier.proofs.rules.skip_met.Lts as lts
-use Rattle.memory.proofs.next.Reads as next-reads
-use Rattle.verifier.proofs.sheet.met.Reads as met-reads
 
 -- src/rules.rt:64:9
 met-requires : tie.Need-met-requires

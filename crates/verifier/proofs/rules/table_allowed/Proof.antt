@@ -1,10 +1,7 @@
-use mathlib.Core.Path.{_≡_, _∙_, ap, refl, sym}
-use borrow.Author.Tests.{lt-ltb, le-ltb, le-leb, lt-leb, eq-eqb, ne-eqb, not-true, not-false}
+use borrow.Author.Tests.{eq-eqb, ne-eqb}
 use Rattle.clearance.specs.Entry.{atMost}
 use Rattle.verifier.proofs.rules.table_allowed.Statement.{statement}
 use Rattle.verifier.proofs.rules.table_allowed.Tie as tie
-use Rattle.verifier.proofs.rules.table_allowed.Reads as reads
-use Rattle.verifier.proofs.rules.table_allowed.Lts as lts
 
 -- src/rules.rt:37:9
 returns : tie.Need-returns

@@ -1,12 +1,9 @@
-use mathlib.Core.Path.{_≡_, _∙_, ap, refl, sym}
-use borrow.Author.Tests.{lt-ltb, le-ltb, le-leb, lt-leb, eq-eqb, ne-eqb, not-true, not-false}
+use mathlib.Core.Path.{_∙_, sym}
+use borrow.Author.Tests.{not-true, not-false}
 use Rattle.clearance.specs.Entry.{covers}
 use borrow.Author.Needs.{needs}
 use Rattle.verifier.proofs.sheet.covers.Statement.{statement}
 use Rattle.verifier.proofs.sheet.covers.Tie as tie
-use Rattle.verifier.proofs.sheet.covers.Reads as reads
-use Rattle.verifier.proofs.sheet.covers.Lts as lts
-use Rattle.verifier.proofs.sheet.reached.Reads as reached-reads
 
 -- src/sheet.rt:43:9
 reached-requires : tie.Need-reached-requires

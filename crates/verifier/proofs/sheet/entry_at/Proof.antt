@@ -1,10 +1,8 @@
-use mathlib.Core.Path.{_≡_, _∙_, ap, refl, sym}
+use mathlib.Core.Path.{sym}
 use Rattle.laws.proofs.Lists.{getD-inside, getD-past}
 use borrow.Author.Needs.{needs}
 use Rattle.verifier.proofs.sheet.entry_at.Statement.{statement}
 use Rattle.verifier.proofs.sheet.entry_at.Tie as tie
-use Rattle.verifier.proofs.sheet.entry_at.Reads as reads
-use Rattle.verifier.proofs.sheet.entry_at.Lts as lts
 
 -- src/sheet.rt:17:9
 returns : tie.Need-returns

@@ -1,12 +1,9 @@
-use mathlib.Core.Path.{_≡_, _∙_, ap, refl, sym}
+use mathlib.Core.Path.{_∙_, ap, sym}
 use Rattle.flow.specs.Flow.{wordFlow}
 use Rattle.laws.proofs.Lists.{getD-past}
 use borrow.Author.Needs.{needs}
 use Rattle.verifier.proofs.sheet.flow_at.Statement.{statement}
 use Rattle.verifier.proofs.sheet.flow_at.Tie as tie
-use Rattle.verifier.proofs.sheet.flow_at.Reads as reads
-use Rattle.verifier.proofs.sheet.flow_at.Lts as lts
-use Rattle.flow.proofs.of_word.Reads as of-word-reads
 
 -- src/sheet.rt:28:9
 of-word-requires : tie.Need-of-word-requires

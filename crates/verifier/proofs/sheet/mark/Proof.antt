@@ -1,16 +1,12 @@
 use native.Mathlib.Omega.{arith}
 use lib.ListN.{length-set}
-use mathlib.Core.Path.{_≡_, _∙_, ap, refl, sym}
-use borrow.Author.Tests.{lt-ltb, le-ltb, le-leb, lt-leb, eq-eqb, ne-eqb, not-true, not-false}
-use lib.Dec.{eqb}
+use mathlib.Core.Path.{_∙_, refl, sym}
+use borrow.Author.Tests.{le-leb, lt-leb, not-true, not-false}
 use Rattle.clearance.specs.Entry.{shares, reached}
 use Rattle.verifier.proofs.Marks.{marked}
 use borrow.Author.Needs.{needs}
 use Rattle.verifier.proofs.sheet.mark.Statement.{statement}
 use Rattle.verifier.proofs.sheet.mark.Tie as tie
-use Rattle.verifier.proofs.sheet.mark.Reads as reads
-use Rattle.verifier.proofs.sheet.mark.Lts as lts
-use Rattle.verifier.proofs.sheet.is_return_skip.Reads as is-return-skip-reads
 
 -- src/sheet.rt:79:9
 is-return-skip-requires : tie.Need-is-return-skip-requires

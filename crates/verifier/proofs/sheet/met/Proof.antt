@@ -1,5 +1,5 @@
-use mathlib.Core.Path.{_≡_, _∙_, ap, refl, sym}
-use borrow.Author.Tests.{lt-ltb, le-ltb, le-leb, lt-leb, eq-eqb, ne-eqb, not-true, not-false}
+use mathlib.Core.Path.{_∙_, ap}
+use borrow.Author.Tests.{lt-ltb, le-ltb}
 use Prim.Native.Nat.{ℕ}
 use Rattle.memory.specs.Chip.{upd17132}
 use Rattle.clearance.specs.Entry.{covers}
@@ -7,10 +7,6 @@ use Rattle.clearance.specs.Rules.{met}
 use borrow.Author.Needs.{needs}
 use Rattle.verifier.proofs.sheet.met.Statement.{statement}
 use Rattle.verifier.proofs.sheet.met.Tie as tie
-use Rattle.verifier.proofs.sheet.met.Reads as reads
-use Rattle.verifier.proofs.sheet.met.Lts as lts
-use Rattle.verifier.proofs.sheet.covers.Reads as covers-reads
-use Rattle.verifier.proofs.sheet.entry_at.Reads as entry-at-reads
 
 -- src/sheet.rt:54:9
 returns : tie.Need-returns

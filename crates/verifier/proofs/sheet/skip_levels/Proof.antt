@@ -1,17 +1,10 @@
 use mathlib.Core.Path.{_≡_, refl}
-use Prim.Native.Nat.{ℕ, _≤_, _-_}
-use native.Mathlib.Omega.{arith}
+use Prim.Native.Nat.{_≤_, _-_}
 use lib.ListN.{length}
 use borrow.Author.Needs.{needs}
-use Rattle.clearance.specs.Rules.{skipReturns}
 use Rattle.verifier.proofs.Marks.{Seen, none-yet, one-more, all-seen}
 use Rattle.verifier.proofs.sheet.skip_levels.Statement.{statement}
 use Rattle.verifier.proofs.sheet.skip_levels.Tie as tie
-use Rattle.verifier.proofs.sheet.skip_levels.Reads as reads
-use Rattle.verifier.proofs.sheet.skip_levels.Lts as lts
-use Rattle.verifier.proofs.sheet.entry_at.Reads as entry-at-reads
-use Rattle.verifier.proofs.sheet.flow_at.Reads as flow-at-reads
-use Rattle.verifier.proofs.sheet.mark.Reads as mark-reads
 
 abbrev Inv-loop : tie.InvT-loop
 Inv-loop rom depths seen₀ word₀ seen word = (word ≤ length rom) × (length rom ≤ 1024) × (length seen ≡ 6) × Seen rom depths word seen
