@@ -1,5 +1,6 @@
 // Runs the decoder and the encoder over document 01's cases 1 to 4, the words of opcode 7, operands that are too large,
 // and all 65,536 words.
+mod listing;
 mod names;
 
 use isa::AluOp;
@@ -70,29 +71,22 @@ fn show_encoded(instruction: Instruction) {
     }
 }
 
-// A word, its instruction, and what that encodes to.
-fn show_word(word: u16) {
-    hex(word, 4);
-    say(b": ");
-    match isa::decode(word) {
-        Decoded::Instruction(instruction) => {
-            show(instruction);
-            say(b": ");
-            show_encoded(instruction);
-        }
-        Decoded::Nothing => {
-            say(b"3");
-        }
-    }
-    say(b"\n");
-}
-
 // An instruction, and what it encodes to.
 fn show_instruction(instruction: Instruction) {
     show(instruction);
     say(b": ");
     show_encoded(instruction);
     say(b"\n");
+}
+
+// A word, its instruction, and what that encodes to.
+fn show_word(word: u16) {
+    hex(word, 4);
+    say(b": ");
+    match isa::decode(word) {
+        Decoded::Instruction(instruction) => show_instruction(instruction),
+        Decoded::Nothing => say(b"3\n"),
+    }
 }
 
 // One operand too large for each kind of field.
