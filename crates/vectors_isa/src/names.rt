@@ -6,29 +6,27 @@ pub fn say(text: &[u8]) {
     io::write_all(1, text);
 }
 
-// How many digits n has, or least where that is more.
-fn digits(n: u16, least: usize) -> usize {
-    let needed = if n < 16 {
-        1
-    } else if n < 256 {
-        2
-    } else if n < 4096 {
-        3
-    } else {
-        4
-    };
-    if needed < least { least } else { needed }
+fn put(letter: u8) {
+    let one = [letter];
+    say(&one);
+}
+
+// The last digit of n; where n is 0, only if it is wanted all the same.
+fn digit(n: u16, wanted: bool) {
+    if n == 0 {
+        if !wanted {
+            return;
+        }
+    }
+    put(text::hex_digit((n % 16) as u8));
 }
 
 // At least as many digits as asked, and at most four.
-pub fn hex(n: u16, least: usize) {
-    let all = text::hex4(n);
-    let width = digits(n, least);
-    if width < 4 {
-        say(&all[4 - width..]);
-    } else {
-        say(&all);
-    }
+pub fn hex(n: u16, least: u8) {
+    digit(n / 4096, 3 < least);
+    digit(n / 256, 2 < least);
+    digit(n / 16, 1 < least);
+    digit(n, true);
 }
 
 // The rows of the manual's list (18.3), twelve letters each. A full stop only fills.
@@ -83,30 +81,22 @@ const LIST: [u8; 564] = *b"\
 
 // The least number of digits that a letter of an operand's name asks for: three in addr, two in m, rf and p, one in r, n4,
 // n, s and h; 0 where it is no such letter.
-fn asked(c: u8) -> usize {
+fn asked(c: u8) -> u8 {
     match c {
         b'a' => 3,
         b'f' | b'm' | b'p' => 2,
-        b'4' | b'b'..=b'z' => 1,
+        b'4' | b'd' | b'h' | b'n' | b'r' | b's' => 1,
         _ => 0,
     }
 }
 
-fn larger(a: usize, b: usize) -> usize {
+fn larger(a: u8, b: u8) -> u8 {
     if a < b { b } else { a }
 }
 
-// A letter or a mark; a full stop only fills.
-fn sign(c: u8) {
-    if c != b'.' {
-        let one = [c];
-        say(&one);
-    }
-}
-
-// Goes on by one letter of a row's text. An operand's name is not printed but the operand, once its name has ended. Width is
-// how many digits the name asks for up to here.
-fn letter(c: u8, operand: u16, width: usize) -> usize {
+// Goes on by one letter of a row's text, and answers how many digits the operand's name asks for up to here. What is printed
+// is not the name, but the operand, once its name has ended. A full stop only fills.
+fn letter(c: u8, operand: u16, width: u8) -> u8 {
     let least = asked(c);
     if 0 < least {
         return larger(least, width);
@@ -114,7 +104,9 @@ fn letter(c: u8, operand: u16, width: usize) -> usize {
     if 0 < width {
         hex(operand, width);
     }
-    sign(c);
+    if c != b'.' {
+        put(c);
+    }
     0
 }
 
@@ -128,8 +120,9 @@ fn show_row(list: &[u8; 564], row: u8, first: u16, second: u16) {
     let mut width = 0;
     let mut next = first;
     for i in from..from + 12 {
-        width = letter(list[i], next, width);
-        next = operand(list[i], next, second);
+        let c = list[i];
+        width = letter(c, next, width);
+        next = operand(c, next, second);
     }
 }
 

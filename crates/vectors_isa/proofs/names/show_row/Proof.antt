@@ -21,14 +21,11 @@ add-i-end c = search needs
 loop-holds : tie.Need-loop-holds Inv-loop μ-loop
 loop-holds c = search needs
 
-element-copy-out-letter : tie.Need-element-copy-out-letter Inv-loop μ-loop
-element-copy-out-letter c = search needs
+element-copy-out-c : tie.Need-element-copy-out-c Inv-loop μ-loop
+element-copy-out-c c = search needs
 
 letter-requires : tie.Need-letter-requires Inv-loop μ-loop
 letter-requires c κs = search needs
-
-element-copy-out-operand : tie.Need-element-copy-out-operand Inv-loop μ-loop
-element-copy-out-operand c = search needs
 
 operand-requires : tie.Need-operand-requires Inv-loop μ-loop
 operand-requires c κs = search needs
@@ -55,9 +52,8 @@ show-row-spec =
     mul-from
     add-i-end
     loop-holds
-    element-copy-out-letter
+    element-copy-out-c
     letter-requires
-    element-copy-out-operand
     operand-requires
     add-i
     loop-less
