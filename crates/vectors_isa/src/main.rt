@@ -139,18 +139,16 @@ enum Trip {
 }
 
 fn sent_back(word: u16) -> Trip {
-    match isa::decode(word) {
-        Decoded::Instruction(instruction) => match isa::encode(instruction) {
-            Encoded::Word(back) => {
-                if back == word {
-                    Trip::Back
-                } else {
-                    Trip::Elsewhere
-                }
-            }
-            Encoded::TooLarge => Trip::Elsewhere,
-        },
-        Decoded::Nothing => Trip::NoInstruction,
+    let Decoded::Instruction(instruction) = isa::decode(word) else {
+        return Trip::NoInstruction;
+    };
+    let Encoded::Word(back) = isa::encode(instruction) else {
+        return Trip::Elsewhere;
+    };
+    if back == word {
+        Trip::Back
+    } else {
+        Trip::Elsewhere
     }
 }
 
