@@ -21,13 +21,11 @@ fn show_refusal(refusal: Refusal) {
 }
 
 fn show_answer(answer: Answer) {
+    say(b": ");
     match answer {
-        Answer::Done => say(b": done"),
-        Answer::Standby => say(b": standing"),
-        Answer::Refused(refusal) => {
-            say(b": ");
-            show_refusal(refusal);
-        }
+        Answer::Done => say(b"done"),
+        Answer::Standby => say(b"standing"),
+        Answer::Refused(refusal) => show_refusal(refusal),
     }
 }
 

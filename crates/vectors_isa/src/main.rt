@@ -152,12 +152,14 @@ fn sent_back(word: u16) -> Trip {
     }
 }
 
-struct Counts {
-    back: u32,
-    elsewhere: u32,
+fn show_counts(back: u32, elsewhere: u32) {
+    io::print_decimal(1, back as u64);
+    say(b" words are instructions and come back; ");
+    io::print_decimal(1, elsewhere as u64);
+    say(b" come back different\n");
 }
 
-fn count_all() -> Counts {
+fn count_all() {
     let mut back: u32 = 0;
     let mut elsewhere: u32 = 0;
     for word in 0..=65535u16 {
@@ -171,15 +173,7 @@ fn count_all() -> Counts {
             }
         }
     }
-    Counts { back, elsewhere }
-}
-
-fn show_counts() {
-    let counts = count_all();
-    io::print_decimal(1, counts.back as u64);
-    say(b" words are instructions and come back; ");
-    io::print_decimal(1, counts.elsewhere as u64);
-    say(b" come back different\n");
+    show_counts(back, elsewhere);
 }
 
 fn show_words(words: &[u16]) {
@@ -195,5 +189,5 @@ fn main() {
     show_words(&GROUP);
     show_words(&NONE);
     show_too_large();
-    show_counts();
+    count_all();
 }
