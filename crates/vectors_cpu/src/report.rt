@@ -15,32 +15,17 @@ use cpu::End;
 use machine::Refusal;
 use memory::Memory;
 
-fn refusal_number(refusal: Refusal) -> u64 {
-    match refusal {
-        Refusal::OutOfRange => 1,
-        Refusal::PastRom => 2,
-        Refusal::NoInstruction => 3,
-        Refusal::NotInBase => 4,
-        Refusal::BadTarget => 5,
-        Refusal::StackFull => 6,
-        Refusal::StackEmpty => 7,
-        Refusal::PastTable => 8,
-    }
-}
-
 fn show_refusal(refusal: Refusal) {
     say(b"refusal ");
-    decimal(refusal_number(refusal));
+    decimal(numbers::of_refusal(refusal) as u64);
 }
 
 fn show_answer(answer: Answer) {
+    say(b": ");
     match answer {
-        Answer::Done => say(b": done"),
-        Answer::Standby => say(b": standing"),
-        Answer::Refused(refusal) => {
-            say(b": ");
-            show_refusal(refusal);
-        }
+        Answer::Done => say(b"done"),
+        Answer::Standby => say(b"standing"),
+        Answer::Refused(refusal) => show_refusal(refusal),
     }
 }
 

@@ -1,5 +1,6 @@
 // Runs the decoder and the encoder over document 01's cases 1 to 4, the words of opcode 7, operands that are too large,
 // and all 65,536 words.
+mod listing;
 mod names;
 
 use isa::AluOp;
@@ -70,29 +71,22 @@ fn show_encoded(instruction: Instruction) {
     }
 }
 
-// A word, its instruction, and what that encodes to.
-fn show_word(word: u16) {
-    hex(word, 4);
-    say(b": ");
-    match isa::decode(word) {
-        Decoded::Instruction(instruction) => {
-            show(instruction);
-            say(b": ");
-            show_encoded(instruction);
-        }
-        Decoded::Nothing => {
-            say(b"3");
-        }
-    }
-    say(b"\n");
-}
-
 // An instruction, and what it encodes to.
 fn show_instruction(instruction: Instruction) {
     show(instruction);
     say(b": ");
     show_encoded(instruction);
     say(b"\n");
+}
+
+// A word, its instruction, and what that encodes to.
+fn show_word(word: u16) {
+    hex(word, 4);
+    say(b": ");
+    match isa::decode(word) {
+        Decoded::Instruction(instruction) => show_instruction(instruction),
+        Decoded::Nothing => say(b"3\n"),
+    }
 }
 
 // One operand too large for each kind of field.
@@ -145,27 +139,27 @@ enum Trip {
 }
 
 fn sent_back(word: u16) -> Trip {
-    match isa::decode(word) {
-        Decoded::Instruction(instruction) => match isa::encode(instruction) {
-            Encoded::Word(back) => {
-                if back == word {
-                    Trip::Back
-                } else {
-                    Trip::Elsewhere
-                }
-            }
-            Encoded::TooLarge => Trip::Elsewhere,
-        },
-        Decoded::Nothing => Trip::NoInstruction,
+    let Decoded::Instruction(instruction) = isa::decode(word) else {
+        return Trip::NoInstruction;
+    };
+    let Encoded::Word(back) = isa::encode(instruction) else {
+        return Trip::Elsewhere;
+    };
+    if back == word {
+        Trip::Back
+    } else {
+        Trip::Elsewhere
     }
 }
 
-struct Counts {
-    back: u32,
-    elsewhere: u32,
+fn show_counts(back: u32, elsewhere: u32) {
+    io::print_decimal(1, back as u64);
+    say(b" words are instructions and come back; ");
+    io::print_decimal(1, elsewhere as u64);
+    say(b" come back different\n");
 }
 
-fn count_all() -> Counts {
+fn count_all() {
     let mut back: u32 = 0;
     let mut elsewhere: u32 = 0;
     for word in 0..=65535u16 {
@@ -179,15 +173,7 @@ fn count_all() -> Counts {
             }
         }
     }
-    Counts { back, elsewhere }
-}
-
-fn show_counts() {
-    let counts = count_all();
-    io::print_decimal(1, counts.back as u64);
-    say(b" words are instructions and come back; ");
-    io::print_decimal(1, counts.elsewhere as u64);
-    say(b" come back different\n");
+    show_counts(back, elsewhere);
 }
 
 fn show_words(words: &[u16]) {
@@ -203,5 +189,5 @@ fn main() {
     show_words(&GROUP);
     show_words(&NONE);
     show_too_large();
-    show_counts();
+    count_all();
 }

@@ -1,126 +1,132 @@
 // Instructions as text: the manual's mnemonics, operands in hexadecimal.
-use isa::AluOp;
-use isa::FixedOp;
+use crate::listing::row_of;
 use isa::Instruction;
-use isa::SkipOp;
 
 pub fn say(text: &[u8]) {
     io::write_all(1, text);
 }
 
-// How many digits n has, or least where that is more.
-fn digits(n: u16, least: usize) -> usize {
-    let needed = if n < 16 {
-        1
-    } else if n < 256 {
-        2
-    } else if n < 4096 {
-        3
-    } else {
-        4
-    };
-    if needed < least { least } else { needed }
+fn put(letter: u8) {
+    let one = [letter];
+    say(&one);
+}
+
+// The last digit of n; where n is 0, only if it is wanted all the same.
+fn digit(n: u16, wanted: bool) {
+    if n == 0 {
+        if !wanted {
+            return;
+        }
+    }
+    put(text::hex_digit((n % 16) as u8));
 }
 
 // At least as many digits as asked, and at most four.
-pub fn hex(n: u16, least: usize) {
-    let all = text::hex4(n);
-    let width = digits(n, least);
-    if width < 4 {
-        say(&all[4 - width..]);
-    } else {
-        say(&all);
+pub fn hex(n: u16, least: u8) {
+    digit(n / 4096, 3 < least);
+    digit(n / 256, 2 < least);
+    digit(n / 16, 1 < least);
+    digit(n, true);
+}
+
+// The rows of the manual's list (18.3), twelve letters each. A full stop only fills.
+const LIST: [u8; 564] = *b"\
+    ADD r,m.....\
+    ADD m,#n4...\
+    ADDC r,m....\
+    ADDC m,#n4..\
+    INC AR......\
+    INC IX......\
+    SUB r,m.....\
+    SUB m,#n4...\
+    SUBC r,m....\
+    SUBC m,#n4..\
+    OR r,m......\
+    OR m,#n4....\
+    AND r,m.....\
+    AND m,#n4...\
+    XOR r,m.....\
+    XOR m,#n4...\
+    SKT m,#n....\
+    SKF m,#n....\
+    SKE m,#n4...\
+    SKNE m,#n4..\
+    SKGE m,#n4..\
+    SKLT m,#n4..\
+    RORC r......\
+    LD r,m......\
+    ST m,r......\
+    MOV @r,m....\
+    MOV m,@r....\
+    MOV m,#n4...\
+    MOVT DBF,@AR\
+    PUSH AR.....\
+    POP AR......\
+    PEEK WR,rf..\
+    POKE rf,WR..\
+    GET DBF,p...\
+    PUT p,DBF...\
+    BR addr.....\
+    BR @AR......\
+    CALL addr...\
+    CALL @AR....\
+    RET.........\
+    RETSK.......\
+    RETI........\
+    EI..........\
+    DI..........\
+    STOP s......\
+    HALT h......\
+    NOP.........";
+
+// The least number of digits that a letter of an operand's name asks for: three in addr, two in m, rf and p, one in r, n4,
+// n, s and h; 0 where it is no such letter.
+fn asked(c: u8) -> u8 {
+    match c {
+        b'a' => 3,
+        b'f' | b'm' | b'p' => 2,
+        b'4' | b'd' | b'h' | b'n' | b'r' | b's' => 1,
+        _ => 0,
     }
 }
 
-fn alu_name(op: AluOp) {
-    match op {
-        AluOp::Add => say(b"ADD"),
-        AluOp::AddC => say(b"ADDC"),
-        AluOp::Sub => say(b"SUB"),
-        AluOp::SubC => say(b"SUBC"),
-        AluOp::Or => say(b"OR"),
-        AluOp::And => say(b"AND"),
-        AluOp::Xor => say(b"XOR"),
+fn larger(a: u8, b: u8) -> u8 {
+    if a < b { b } else { a }
+}
+
+// Goes on by one letter of a row's text, and answers how many digits the operand's name asks for up to here. What is printed
+// is not the name, but the operand, once its name has ended. A full stop only fills.
+fn letter(c: u8, operand: u16, width: u8) -> u8 {
+    let least = asked(c);
+    if 0 < least {
+        return larger(least, width);
     }
-}
-
-fn skip_name(op: SkipOp) {
-    match op {
-        SkipOp::Skt => say(b"SKT"),
-        SkipOp::Skf => say(b"SKF"),
-        SkipOp::Ske => say(b"SKE"),
-        SkipOp::Skne => say(b"SKNE"),
-        SkipOp::Skge => say(b"SKGE"),
-        SkipOp::Sklt => say(b"SKLT"),
+    if 0 < width {
+        hex(operand, width);
     }
-}
-
-fn fixed_name(op: FixedOp) {
-    match op {
-        FixedOp::IncAr => say(b"INC AR"),
-        FixedOp::IncIx => say(b"INC IX"),
-        FixedOp::Movt => say(b"MOVT DBF,@AR"),
-        FixedOp::PushAr => say(b"PUSH AR"),
-        FixedOp::PopAr => say(b"POP AR"),
-        FixedOp::BrAr => say(b"BR @AR"),
-        FixedOp::CallAr => say(b"CALL @AR"),
-        FixedOp::Ret => say(b"RET"),
-        FixedOp::Retsk => say(b"RETSK"),
-        FixedOp::Reti => say(b"RETI"),
-        FixedOp::Ei => say(b"EI"),
-        FixedOp::Di => say(b"DI"),
-        FixedOp::Nop => say(b"NOP"),
+    if c != b'.' {
+        put(c);
     }
+    0
 }
 
-// Two operands, with what stands before each.
-fn two(first: &[u8], a: u8, a_width: usize, second: &[u8], b: u8, b_width: usize) {
-    say(first);
-    hex(a as u16, a_width);
-    say(second);
-    hex(b as u16, b_width);
+// Behind the comma the second operand stands.
+fn operand(c: u8, first: u16, second: u16) -> u16 {
+    if c == b',' { second } else { first }
 }
 
-fn one(first: &[u8], a: u16, width: usize) {
-    say(first);
-    hex(a, width);
+fn show_row(list: &[u8; 564], row: u8, first: u16, second: u16) {
+    let from = (row % 47) as usize * 12;
+    let mut width = 0;
+    let mut next = first;
+    for i in from..from + 12 {
+        let c = list[i];
+        width = letter(c, next, width);
+        next = operand(c, next, second);
+    }
 }
 
 pub fn show(instruction: Instruction) {
-    match instruction {
-        Instruction::AluRegister { op, r, m } => {
-            alu_name(op);
-            two(b" ", r, 1, b",", m, 2);
-        }
-        Instruction::AluImmediate { op, m, n4 } => {
-            alu_name(op);
-            two(b" ", m, 2, b",#", n4, 1);
-        }
-        Instruction::Skip { op, m, n4 } => {
-            skip_name(op);
-            two(b" ", m, 2, b",#", n4, 1);
-        }
-        Instruction::Rorc(r) => one(b"RORC ", r as u16, 1),
-        Instruction::Ld { r, m } => two(b"LD ", r, 1, b",", m, 2),
-        Instruction::St { m, r } => two(b"ST ", m, 2, b",", r, 1),
-        Instruction::MovToIndirect { r, m } => two(b"MOV @", r, 1, b",", m, 2),
-        Instruction::MovFromIndirect { m, r } => two(b"MOV ", m, 2, b",@", r, 1),
-        Instruction::MovImmediate { m, n4 } => two(b"MOV ", m, 2, b",#", n4, 1),
-        Instruction::Peek(rf) => one(b"PEEK WR,", rf as u16, 2),
-        Instruction::Poke(rf) => {
-            one(b"POKE ", rf as u16, 2);
-            say(b",WR");
-        }
-        Instruction::Get(p) => one(b"GET DBF,", p as u16, 2),
-        Instruction::Put(p) => {
-            one(b"PUT ", p as u16, 2);
-            say(b",DBF");
-        }
-        Instruction::Br(addr) => one(b"BR ", addr, 3),
-        Instruction::Call(addr) => one(b"CALL ", addr, 3),
-        Instruction::Stop(s) => one(b"STOP ", s as u16, 1),
-        Instruction::Halt(h) => one(b"HALT ", h as u16, 1),
-        Instruction::Fixed(op) => fixed_name(op),
-    }
+    let l = row_of(instruction);
+    show_row(&LIST, l.row, l.first, l.second);
 }

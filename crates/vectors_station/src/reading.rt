@@ -14,12 +14,11 @@ use crate::compare::holds_words;
 use crate::writing::Wrote;
 use crate::writing::not_written;
 use crate::writing::write_same;
-use station_file::Fault;
 use station_file::Loaded;
 
 pub struct Outcome {
     // A refusal, or 0 and the numbers of words, entries and records.
-    pub refusal: u64,
+    pub refusal: u8,
     pub words: usize,
     pub entries: usize,
     pub records: usize,
@@ -30,20 +29,8 @@ pub struct Outcome {
     pub short: Wrote,
 }
 
-// Document 01's number of a refusal.
-pub fn number(fault: Fault) -> u64 {
-    match fault {
-        Fault::Form => 20,
-        Fault::Early => 21,
-        Fault::Count => 22,
-        Fault::Entry => 23,
-        Fault::After => 24,
-        Fault::Room => 25,
-    }
-}
-
 // A refusal, and whether nothing was written.
-pub fn refused(n: u64, right: bool) -> Outcome {
+pub fn refused(n: u8, right: bool) -> Outcome {
     Outcome {
         refusal: n,
         words: 0,
@@ -62,7 +49,7 @@ pub fn read(file: &[u8], b: Bench) -> Outcome {
     let none = part(file, 0, 0);
     match read_to(file, &mut rom, &mut sheet, &mut inputs, b) {
         Loaded::Refused(fault) => refused(
-            number(fault),
+            numbers::of_fault(fault),
             hold(&rom, &sheet, &inputs, none, none, none),
         ),
         Loaded::Station {

@@ -35,9 +35,9 @@ fn outcome(bytes: &[u8], b: Bench) -> Outcome {
     read(part(bytes, 0, b.size), b)
 }
 
-fn say_refusal(n: u64, kept: bool) {
+fn say_refusal(n: u8, kept: bool) {
     say(b"REFUSED ");
-    decimal(n);
+    decimal(n as u64);
     if kept {
         say(b" kept");
     } else {

@@ -4,13 +4,12 @@ use crate::bench::least;
 use crate::bench::part;
 use crate::compare::MARK;
 use crate::compare::holds;
-use crate::reading::number;
 use crate::reading::reads_as;
 use station_file::Written;
 
 pub struct Wrote {
     // A refusal and 0 bytes, or 0 and the number of bytes.
-    pub refusal: u64,
+    pub refusal: u8,
     pub size: usize,
     // Whether the buffer holds what it must.
     pub right: bool,
@@ -21,7 +20,7 @@ pub fn not_written() -> Wrote {
     answer(0, 0)
 }
 
-fn answer(refusal: u64, size: usize) -> Wrote {
+fn answer(refusal: u8, size: usize) -> Wrote {
     Wrote {
         refusal: refusal,
         size: size,
@@ -33,7 +32,7 @@ fn answer(refusal: u64, size: usize) -> Wrote {
 fn write_to(rom: &[u16], sheet: &[u8], inputs: &[u8], out: &mut [u8], room: usize) -> Wrote {
     let n = least(room, out.len());
     match station_file::write(rom, sheet, inputs, &mut out[0..n]) {
-        Written::Refused(fault) => answer(number(fault), 0),
+        Written::Refused(fault) => answer(numbers::of_fault(fault), 0),
         Written::Bytes(size) => answer(0, size),
     }
 }

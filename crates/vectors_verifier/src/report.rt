@@ -37,9 +37,13 @@ fn show(verdict: Verdict) {
     match verdict {
         Verdict::Pass => say(b"PASS"),
         Verdict::Fail { word, rule } => show_fail(word, rule),
-        Verdict::RomLength => say(b"REFUSED 1"),
-        Verdict::SheetLength => say(b"REFUSED 9"),
+        _ => show_refusal(numbers::of_verdict(verdict)),
     }
+}
+
+fn show_refusal(number: u8) {
+    say(b"REFUSED ");
+    decimal(number as u64);
 }
 
 fn show_fail(at: u16, rule: u8) {
@@ -56,14 +60,12 @@ pub fn check(b: Bench) {
 }
 
 // A number for each answer, and one for none yet.
-const NO_ANSWER: u32 = 0;
+const NO_ANSWER: u32 = 255;
 
 fn number(verdict: Verdict) -> u32 {
     match verdict {
-        Verdict::Pass => 1,
         Verdict::Fail { word, rule } => 256 + word as u32 * 256 + rule as u32,
-        Verdict::RomLength => 2,
-        Verdict::SheetLength => 3,
+        _ => numbers::of_verdict(verdict) as u32,
     }
 }
 

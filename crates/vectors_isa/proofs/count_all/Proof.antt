@@ -41,11 +41,11 @@ loop-less c = search needs
 loop-again : tie.Need-loop-again Inv-loop μ-loop
 loop-again c = ⊎-elim (λ w. omega arith) (⊎-elim (λ w. omega arith) (λ w. omega arith)) (c .before .match .came)
 
+show-counts-requires : tie.Need-show-counts-requires Inv-loop μ-loop
+show-counts-requires c κs = search needs
+
 returns : tie.Need-returns Inv-loop μ-loop
 returns c = search needs
-
-returns-2 : tie.Need-returns-2 Inv-loop μ-loop
-returns-2 c = search needs
 
 pub count-all-spec : {M : Type 1} → statement M
 count-all-spec =
@@ -63,5 +63,5 @@ count-all-spec =
     add-word
     loop-less
     loop-again
-    returns
-    returns-2)
+    show-counts-requires
+    returns)
