@@ -10,9 +10,9 @@ use Rattle.verifier.specs.Verdict.{pass, answerOf, verifyOf, Clear}
 use Rattle.verifier.specs.declared.Verdict.{Verdict}
 use Rattle.replies.specs.Replies.{checkedOf}
 use Rattle.replies.specs.declared.Checked.{Checked}
-use Rattle.records.specs.SafeEntries.{SafeEntries}
+use Rattle.record_laws.specs.SafeEntries.{SafeEntries}
 use Rattle.pollwezen.proofs.Checks.{verified}
-use Rattle.records.proofs.EntryLists.{safe-entries}
+use Rattle.record_laws.proofs.EntryLists.{safe-entries}
 
 pub promised : (rom depths : List ℕ) (v : Verdict) (c : Checked) → c ≡ checkedOf (answerOf v)
     → (answerOf v ≡ verifyOf upd17132 rom depths)

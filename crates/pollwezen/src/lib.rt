@@ -15,7 +15,7 @@ ghost use Rattle.station_file.specs.Station.{form1};
 ghost use Rattle.station_file.specs.Write.{writeOf};
 ghost use Rattle.transcript.specs.Transcript.{printOf, transcriptOf};
 ghost use Rattle.replies.specs.Replies.{checkedOf, countsOf, outputOf, printedOf};
-ghost use Rattle.records.specs.SafeEntries.{SafeEntries};
+ghost use Rattle.record_laws.specs.SafeEntries.{SafeEntries};
 ghost use Rattle.records.specs.Records.{numbered, reported, resetRecord, runRecordOf, stepRecordOf};
 use coding::Coded;
 use records::Inputs;

@@ -1,7 +1,7 @@
 -- From the parts of a C entry to its definition; what the definitions keep and lose.
 -- Assumes nothing.
 use mathlib.Core.Path.{_≡_, _∙_, ap, refl}
-use mathlib.Core.Bool.{Bool, true, false, _&&_, cond}
+use mathlib.Core.Bool.{Bool, true, false, cond}
 use mathlib.Core.List.{List}
 use Prim.Native.Nat.{ℕ, zero, suc}
 use native.Mathlib.Omega.{arith}
@@ -19,7 +19,7 @@ use Rattle.cpu.specs.declared.Ran.{Ran}
 use Rattle.cpu.specs.declared.Stepped.{Stepped}
 use Rattle.host.proofs.Refused.{step-keeps}
 use Rattle.numbers.specs.Numbers.{stepNumber}
-use Rattle.records.specs.Records.{inputOf, machineOf, marksInRange, recordOf, numbered, reported, ofStep, ofRun, stepRecordOf, runRecordOf, Faithful, Follows}
+use Rattle.records.specs.Records.{inputOf, machineOf, marksInRange, recordOf, numbered, reported, ofStep, ofRun, stepRecordOf, runRecordOf}
 use Rattle.records.specs.declared.Inputs.{Inputs}
 use Rattle.records.specs.declared.Numbered.{Numbered}
 use Rattle.records.specs.declared.Record.{Record}
@@ -54,7 +54,7 @@ mark zero e = refl
 mark (suc zero) e = refl
 mark (suc (suc n)) e = absurd (let h = leb-true (suc (suc n)) 1 e in omega (arith, h))
 
-records : (r : Record) → marksInRange r ≡ true → recordOf (machineOf r) ≡ r
+pub records : (r : Record) → marksInRange r ≡ true → recordOf (machineOf r) ≡ r
 unfolding marksInRange
 records r e =
     let f = both (leb (r .skip) 1) (leb (r .standby) 1) e in
@@ -66,43 +66,6 @@ records r e =
       levels = r .levels;
       skip = mark (r .skip) (f .0) j;
       standby = mark (r .standby) (f .1) j;
-    }
-
-bit : (b : Bool) → eqb (cond b 1 0) 1 ≡ b
-bit true = refl
-bit false = refl
-
-machines : (m : Machine) → machineOf (recordOf m) ≡ m
-machines m =
-    λ j.
-    record {
-      memory = m .memory;
-      control = record { pc = m .control .pc; stack = m .control .stack; levels = m .control .levels; skip = bit (m .control .skip) j; standby = bit (m .control .standby) j };
-    }
-
-pub faithful : Faithful
-faithful =
-    record {
-      records = records;
-      machines = machines;
-    }
-
-in-range : (a b : Bool) → (leb (cond a 1 0) 1 && leb (cond b 1 0) 1) ≡ true
-in-range true true = refl
-in-range true false = refl
-in-range false true = refl
-in-range false false = refl
-
-marked : (m : Machine) → marksInRange (recordOf m) ≡ true
-unfolding marksInRange
-marked m = in-range (m .control .skip) (m .control .standby)
-
-pub follows : Follows
-unfolding stepRecordOf runRecordOf
-follows =
-    record {
-      steps = λ rom i m. rw (marked m, machines m);
-      runs = λ rom i budget m. rw (marked m, machines m);
     }
 
 -- a number that is a refusal leaves the record as it came

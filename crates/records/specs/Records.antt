@@ -1,7 +1,6 @@
 -- What the C entries answer: the definitions of the step and the run, on a record whose marks are bytes.
 -- Assumes nothing.
-use mathlib.Core.Path.{_≡_}
-use mathlib.Core.Bool.{Bool, true, _&&_, cond}
+use mathlib.Core.Bool.{Bool, _&&_, cond}
 use mathlib.Core.List.{List}
 use Prim.Native.Nat.{ℕ}
 use lib.Dec.{eqb, leb}
@@ -65,15 +64,3 @@ ofRun s = reported (s .steps) (s .refusal) (recordOf (s .machine))
 
 unfoldable pub runRecordOf : List ℕ → Inputs → ℕ → Record → Reported
 runRecordOf rom i budget r = cond (marksInRange r) (ofRun (runInPlaceOf upd17132 rom (inputOf i) budget (machineOf r))) (reported 0 1 r)
-
--- the records of a host lose nothing
-pub record Faithful : Type 0 where
-  pub records : (r : Record) → marksInRange r ≡ true → recordOf (machineOf r) ≡ r
-  pub machines : (m : Machine) → machineOf (recordOf m) ≡ m
-
--- from the reset record on the C entries follow the forms in place
-pub record Follows : Type 0 where
-  pub steps : (rom : List ℕ) (i : Inputs) (m : Machine)
-      → stepRecordOf rom i (recordOf m) ≡ ofStep (stepInPlaceOf upd17132 rom (inputOf i) m)
-  pub runs : (rom : List ℕ) (i : Inputs) (budget : ℕ) (m : Machine)
-      → runRecordOf rom i budget (recordOf m) ≡ ofRun (runInPlaceOf upd17132 rom (inputOf i) budget m)

@@ -1,6 +1,6 @@
 -- The check of a station that was read, from the counts that the reader takes.
 -- Assumes nothing.
-use mathlib.Core.Path.{_≡_, _∙_, ap, refl}
+use mathlib.Core.Path.{_≡_, refl}
 use mathlib.Core.Bool.{Bool, true, false, cond, _||_}
 use mathlib.Core.List.{List}
 use mathlib.Core.Logic.{_⊎_, inl, inr}
@@ -11,11 +11,10 @@ use lib.Dec.{eqb, ltb}
 use lib.ListN.{length}
 use Rattle.memory.specs.Chip.{upd17132}
 use Rattle.machine.specs.Ranges.{romInRange}
-use Rattle.station_file.specs.Reading.{got}
-use Rattle.station_file.specs.Station.{Station, form1, romCount, sheetCount, parseOf}
-use Rattle.verifier.specs.Verdict.{Answer, pass, fail, refused, ruled, lowestWord, lowestRule, verifyOf}
+use Rattle.station_file.specs.Station.{romCount}
+use Rattle.verifier.specs.Verdict.{pass, fail, refused, ruled, lowestWord, lowestRule, verifyOf}
 use Rattle.station_laws.specs.Checkable.{Checkable}
-use Rattle.station_laws.proofs.Sizes.{Counts, counts}
+use Rattle.station_laws.proofs.Sizes.{counts}
 
 not-refused : (b : Bool) (w r n : ℕ) → cond b (fail w r) pass ≡ refused n → ⊥
 not-refused true w r n e = let z : _≡_ {A = ℕ} 0 1 = cc in omega arith

@@ -1,11 +1,11 @@
 -- The theorems of specs/ReadWrite.antt, from those of specs/RoundTrip.antt.
 -- Assumes nothing.
-use mathlib.Core.Path.{_≡_, _∙_, ap, refl, sym}
+use mathlib.Core.Path.{_≡_, _∙_, ap, refl}
 use mathlib.Core.Bool.{Bool, true, false, cond, and-eq-true-iff}
 use mathlib.Core.List.{List}
 use Prim.Native.Nat.{ℕ, _*_, _/_, _%_, _^_, _≤_}
 use native.Mathlib.Omega.{arith}
-use borrow.Author.Tests.{eqb-true, eq-eqb, le-leb}
+use borrow.Author.Tests.{eqb-true, le-leb}
 use lib.Dec.{eqb, leb}
 use lib.ListN.{length, take, drop}
 use lib.Seq.{take-append-seam}
@@ -14,7 +14,7 @@ use Rattle.station_file.specs.Read.{Buffers, Read, station, overlay, fitsIn, fi
 use Rattle.station_file.specs.Reading.{Reading, got, refused}
 use Rattle.station_file.specs.Station.{Form, Station, form1, recordBytes, parseOf}
 use Rattle.station_file.specs.Write as write
-use Rattle.station_file.specs.Write.{Written, records, wrote, renderOf, faultOf, writeOf}
+use Rattle.station_file.specs.Write.{records, wrote, renderOf, faultOf, writeOf}
 use Rattle.station_laws.specs.ReadWrite.{front, ReadWrite}
 use Rattle.station_laws.specs.RoundTrip.{below, RoundTrip}
 use Rattle.station_laws.proofs.Faults.{good-of}

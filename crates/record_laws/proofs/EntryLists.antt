@@ -14,12 +14,12 @@ use Rattle.clearance.specs.Calls.{Call, Tally, noCalls, refusalAt, tallyAfter}
 use Rattle.clearance.specs.Calls as calls
 use Rattle.clearance.specs.Safe.{Moment, Allowed, During, Good, Safe}
 use Rattle.numbers.specs.Numbers.{stepNumber}
 use Rattle.records.specs.Records.{machineOf, recordOf, inputOf}
-use Rattle.records.specs.SafeEntries.{EntryCall, step, run, inside, asCall, refusalIn, refusalBy, leftBy, AllowedEntry, GoodEntries, SafeEntries}
+use Rattle.record_laws.specs.SafeEntries.{EntryCall, step, run, inside, asCall, refusalIn, refusalBy, leftBy, AllowedEntry, GoodEntries, SafeEntries}
 use Rattle.records.specs.declared.Numbered.{Numbered}
 use Rattle.records.specs.declared.Record.{Record}
 use Rattle.records.specs.declared.Reported.{Reported}
-use Rattle.records.proofs.Lent.{faithful, follows}
+use Rattle.record_laws.proofs.RecordLaws.{faithful, follows}
 
 asCalls : List EntryCall → List Call
 asCalls [] = []
