@@ -115,8 +115,8 @@ pollwezen_checked pollwezen_verify(const uint16_t *rom, size_t words, const uint
 /* The instruction that a word is. */
 pollwezen_listed pollwezen_decode(uint16_t word);
 
-/* The word of an instruction. Refusals: 1 for a row past the list, 10 for an operand that is too large for its field or that the
- * row does not have. */
+/* The word of an instruction. Refusals: 1 for a row past the list, 10 for an operand that is too large for its field or that
+ * the row does not have. */
 pollwezen_coded pollwezen_encode(uint8_t row, uint8_t first, uint8_t second, uint16_t addr);
 
 /* Reads a station file to the front of three lent buffers; a sheet of no entries is none. An input record is eleven bytes: five

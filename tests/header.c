@@ -1,5 +1,6 @@
 /* Tests include/pollwezen.h against the library: the layout of its structs (layout.c), and each entry with good and bad input,
- * those for words in codes.c and for files in files.c. It prints each line that fails and ends with how many did; the exit status is 0 where none did. */
+ * those for words in codes.c and for files in files.c. It prints each line that fails and ends with how many did; the exit
+ * status is 0 where none did. */
 #include "header.h"
 
 #include <stdio.h>

@@ -1,5 +1,5 @@
--- A run by its steps: its first steps are the shorter run of so many steps, and the tally after it is that of its completed
--- steps.
+-- A run by its steps: a run of no more steps than another completes, completes them all, and the tally after a run is that of
+-- its completed steps.
 -- Assumes nothing.
 use mathlib.Core.Path.{_≡_, _∙_, ap, refl, sym}
 use mathlib.Core.Bool.{Bool, true, false, cond}

@@ -81,7 +81,7 @@ rule3 chip rom ReadsTable e = eqb (length rom) (2 ^ 10) && atMost (chip .levels 
 rule3 chip rom StandsBy e = true
 rule3 chip rom Barred e = false
 
--- 4: next has the word's level, but not after BR, RET and RETSK; after a skip so has the word after next, and after BR its
+-- 4: except after BR, RET and RETSK next has the word's level; after a skip so has the word after next, and after BR its
 -- target. What is barred breaks rule 3 already.
 abbrev pub asks4 : Chip → ℕ → Flow → Entry → List Ask
 asks4 chip w Onward e = record { word = next chip w; entry = e } ∷ []
@@ -98,8 +98,8 @@ module _ (chip : Chip) (rom depths : List ℕ) where
   abbrev pub rule4 : ℕ → Flow → Entry → Bool
   rule4 w f e = allMet chip rom depths (asks4 chip w f e)
 
-  -- 5: a CALL leaves a level free, and its target is one higher; if a reached RETSK has that level, the word after next has
-  -- CALL's own
+  -- 5: CALL at level 4 or less, its target one higher; if a reached RETSK has that higher level, the word after next has CALL's
+  -- own
   abbrev pub asks5 : ℕ → ℕ → Entry → List Ask
   asks5 w to e =
       record { word = to; entry = raised e }

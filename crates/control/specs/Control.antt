@@ -98,7 +98,7 @@ module _ (chip : Chip) where
   unfoldable pub onwardOf : Bool → Control → Transfer
   onwardOf skip c = goes (marked skip (c .standby) (onwards c))
 
-  -- Of the data only whether a skip's condition holds, and AR. Neither mark is set when an instruction runs. What
+  -- Of the data only whether a skip's condition holds, and AR. In a step neither mark is set when an instruction runs. What
   -- refusal 4 names never comes here, since the word alone decides that; it is refused here too.
   unfoldable pub controlOf : Instruction → Bool → ℕ → Control → Transfer
   controlOf (AluRegister op r m) skips ar c = onwardOf false c

@@ -92,7 +92,7 @@ module _ (chip : Chip) (rom : List ℕ) (input : Input) where
 
   pub budget-refused : (budget : ℕ) (m : Machine) → 65535 < budget → ended 0 1 m ≡ runOf chip rom input budget m
   unfolding runOf budgetInRange
-  budget-refused budget m h = rw (lt-leb budget 65535 h, and-false (allInRange chip rom m input))
+  budget-refused budget m h = rw (lt-leb budget 65535 h, and-false _)
 
   pub range-refused : (budget : ℕ) (m : Machine) → allInRange chip rom m input ≡ false → ended 0 1 m ≡ runOf chip rom input budget m
   unfolding runOf

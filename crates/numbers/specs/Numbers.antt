@@ -1,5 +1,6 @@
--- The number that stands for each answer. A refusal's is that of document 01, "Refusal numbers" (`numberOf`, `endOf` in
--- crates/cpu/specs/Answers.antt, `faultNumber` in crates/station_file/specs/Answers.antt); what is no refusal has a number here.
+-- The number that stands for each answer. A refusal's is that of document 01, "Refusal numbers" (`numberOf` in
+-- crates/machine/specs/Refusals.antt, `faultNumber` in crates/station_file/specs/Answers.antt); what is no refusal has a number
+-- here.
 -- Assumes nothing.
 use mathlib.Core.Path.{_≡_}
 use Prim.Native.Nat.{ℕ}

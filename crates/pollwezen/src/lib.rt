@@ -60,7 +60,7 @@ pub extern "C" fn pollwezen_run(
     r.report
 }
 
-// The check of a ROM and its sheet, one level a word. The last promise is demand 3 for these entries.
+// The check of a ROM and its sheet, one level a word. The last promise is demand 3 with these entries.
 #[no_mangle]
 pub extern "C" fn pollwezen_verify(rom: &[u16], depths: &[u8]) -> Checked
     ensures { λ r. ⌜ r ≡ checkedOf (verifyOf upd17132 (now (rom .entry)) (now (depths .entry))) ⌝ }

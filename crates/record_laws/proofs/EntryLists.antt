@@ -15,7 +15,7 @@ use Rattle.clearance.specs.Calls as calls
 use Rattle.clearance.specs.Safe.{Moment, Allowed, During, Good, Safe}
 use Rattle.numbers.specs.Numbers.{stepNumber}
 use Rattle.records.specs.Records.{machineOf, recordOf, inputOf}
-use Rattle.record_laws.specs.SafeEntries.{EntryCall, step, run, inside, asCall, refusalIn, refusalBy, leftBy, AllowedEntry, GoodEntries, SafeEntries}
+use Rattle.record_laws.specs.SafeEntries.{EntryCall, step, run, onMachine, asCall, refusalIn, refusalBy, leftBy, AllowedEntry, GoodEntries, SafeEntries}
 use Rattle.records.specs.declared.Numbered.{Numbered}
 use Rattle.records.specs.declared.Record.{Record}
 use Rattle.records.specs.declared.Reported.{Reported}
@@ -35,13 +35,13 @@ module _ (rom depths : List ℕ) where
   left-is : (c : EntryCall) (m : Machine) → leftBy rom c (recordOf m) ≡ recordOf (calls.leftBy upd17132 rom (asCall c) m)
   left-is (step i) m = ap (λ (x : Numbered). x .left) (follows .steps rom i m)
   left-is (run i budget) m = ap (λ (x : Reported). x .left) (follows .runs rom i budget m)
-  left-is (inside c) m = ap (λ (x : Machine). recordOf (calls.leftBy upd17132 rom c x)) (faithful .machines m)
+  left-is (onMachine c) m = ap (λ (x : Machine). recordOf (calls.leftBy upd17132 rom c x)) (faithful .machines m)
 
   refusal-is : (c : EntryCall) (m : Machine) → (refusalAt upd17132 rom (asCall c) m ≡ 0) ⊎ (refusalAt upd17132 rom (asCall c) m ≡ 1)
       → refusalBy rom c (recordOf m) ≡ refusalAt upd17132 rom (asCall c) m
   refusal-is (step i) m h = ap (λ (x : Numbered). refusalIn (x .number)) (follows .steps rom i m) ∙ number-in ((stepInPlaceOf upd17132 rom (inputOf i) m) .reply) h
   refusal-is (run i budget) m h = ap (λ (x : Reported). x .report .number) (follows .runs rom i budget m)
-  refusal-is (inside c) m h = ap (λ (x : Machine). refusalAt upd17132 rom c x) (faithful .machines m)
+  refusal-is (onMachine c) m h = ap (λ (x : Machine). refusalAt upd17132 rom c x) (faithful .machines m)
 
   allowed : (c : EntryCall) (m : Machine) → Allowed upd17132 rom depths (asCall c) m → AllowedEntry rom depths c (recordOf m)
   allowed c m a =

@@ -20,13 +20,13 @@ use Rattle.records.specs.declared.Record.{Record}
 pub data EntryCall : Type 0 where
   step : Inputs → EntryCall
   run : Inputs → ℕ → EntryCall
-  inside : Call → EntryCall
+  onMachine : Call → EntryCall
 
 -- the same call on the machine
 abbrev pub asCall : EntryCall → Call
 asCall (step i) = stepInPlace (inputOf i)
 asCall (run i budget) = runInPlace (inputOf i) budget
-asCall (inside c) = c
+asCall (onMachine c) = c
 
 -- the refusal in a step's number: standby is none
 abbrev pub refusalIn : ℕ → ℕ
@@ -37,12 +37,12 @@ module _ (rom : List ℕ) where
   abbrev pub refusalBy : EntryCall → Record → ℕ
   refusalBy (step i) r = refusalIn ((stepRecordOf rom i r) .number)
   refusalBy (run i budget) r = (runRecordOf rom i budget r) .report .number
-  refusalBy (inside c) r = refusalAt upd17132 rom c (machineOf r)
+  refusalBy (onMachine c) r = refusalAt upd17132 rom c (machineOf r)
 
   abbrev pub leftBy : EntryCall → Record → Record
   leftBy (step i) r = (stepRecordOf rom i r) .left
   leftBy (run i budget) r = (runRecordOf rom i budget r) .left
-  leftBy (inside c) r = recordOf (calls.leftBy upd17132 rom c (machineOf r))
+  leftBy (onMachine c) r = recordOf (calls.leftBy upd17132 rom c (machineOf r))
 
 module _ (rom depths : List ℕ) where
   -- a call that has its own inputs and budget in range is not refused, and no call with a number other than 1

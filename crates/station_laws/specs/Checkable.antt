@@ -1,5 +1,5 @@
--- A sheet that was read has no entries, or as many as the ROM has words: the check has no refusal for it, and `station` prints
--- its verdict. Proved in proofs/Checkable.antt.
+-- A sheet that was read has no entries, which `station` does not check, or as many as the ROM has words: then the check has no
+-- refusal for it, and `station` prints its verdict. Proved in proofs/Checkable.antt.
 -- Assumes nothing.
 use mathlib.Core.Path.{_≡_}
 use mathlib.Core.List.{List}
