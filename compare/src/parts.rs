@@ -114,7 +114,7 @@ pub const PARTS: &[Part] = &[
     },
     Part {
         name: "entries",
-        cases: 60_000,
+        cases: 30_000,
         few: 500,
         numbers: &[0, 20, 21, 22, 23, 24, 25],
         things: &["stations written", "stations refused", "texts", "texts without room"],
