@@ -1,36 +1,25 @@
 // The 64 rows of the decimal table.
+use crate::print::fill;
 use crate::print::say;
-use crate::results::show_operands;
-use crate::results::show_outcome;
+use crate::results;
 
 // Two halves, and the carry where n is odd.
 fn show_sum(n: u8) {
-    let half = n / 2;
-    let carry = n % 2 == 1;
-    say(b"sum ");
-    io::print_decimal(1, n as u64);
-    say(b" ");
-    show_operands(true, b"ADD", half, b"+", half, carry);
-    show_outcome(alu::add(true, half, half, carry));
+    fill(b"sum $ ", &[n]);
+    results::show_sum(true, n / 2, n / 2, n % 2 == 1);
     say(b"\n");
 }
 
 fn show_difference(n: u8) {
-    say(b"difference ");
-    io::print_decimal(1, n as u64);
-    say(b" ");
-    show_operands(true, b"SUB", n, b"-", 0, false);
-    show_outcome(alu::subtract(true, n, 0, false));
+    fill(b"difference $ ", &[n]);
+    results::show_difference(true, n, 0, false);
     say(b"\n");
 }
 
 // 0 less b less 1.
 fn show_below_zero(b: u8) {
-    say(b"difference -");
-    io::print_decimal(1, b as u64 + 1);
-    say(b" ");
-    show_operands(true, b"SUB", 0, b"-", b, true);
-    show_outcome(alu::subtract(true, 0, b, true));
+    fill(b"difference -$ ", &[b % 16 + 1]);
+    results::show_difference(true, 0, b, true);
     say(b"\n");
 }
 
