@@ -82,11 +82,11 @@ const BOTH: Pointers = Pointers {
 
 // Document 01, "Numbers to check by", 11 and 12.
 pub fn show_cases() {
-    say(b"11");
+    io::print_decimal(1, 11);
     show_direct(IX_12, 0x3, 0x61);
-    say(b"12");
+    io::print_decimal(1, 12);
     show_transfer(PLAIN, 0x5, 8, 0x34);
-    say(b"12");
+    io::print_decimal(1, 12);
     show_transfer(MP_6, 0x5, 8, 0x34);
 }
 

@@ -1,5 +1,6 @@
 // Ports, cells with fixed bits, and the registers of several cells.
 use crate::print::fill;
+use crate::print::say;
 use crate::setup::Pointers;
 use crate::setup::reset_cells;
 use crate::setup::with_pointers;
@@ -45,9 +46,6 @@ pub fn show_ports() {
     show_port([0b0101; 5], [1, 2, 4, 8, 3]);
 }
 
-// The cells with a fixed bit.
-pub const FIXED: [u8; 7] = [0x6F, 0x74, 0x75, 0x79, 0x7A, 0x7B, 0x7D];
-
 // What is read after a write of 0FH, where the port bits are outputs.
 fn kept(at: u8) -> u8 {
     let cells = memory::write(reset_cells(), at, 15);
@@ -56,14 +54,6 @@ fn kept(at: u8) -> u8 {
 
 fn show_kept(at: u8) {
     fill(b"F written to %: _\n", &[at, kept(at)]);
-}
-
-fn show_each_kept(addresses: &[u8]) {
-    let mut i = 0;
-    while i < addresses.len() {
-        show_kept(addresses[i]);
-        i += 1;
-    }
 }
 
 fn count_whole() -> u8 {
@@ -76,24 +66,29 @@ fn count_whole() -> u8 {
     whole
 }
 
+// The cells with a fixed bit, then how many have none.
 pub fn show_fixed() {
-    show_each_kept(&FIXED);
-    fill(b"F kept by $ cells\n", &[count_whole()]);
+    show_kept(0x6F);
+    show_kept(0x74);
+    show_kept(0x75);
+    show_kept(0x79);
+    show_kept(0x7A);
+    show_kept(0x7B);
+    show_kept(0x7D);
+    say(b"F kept by ");
+    io::print_decimal(1, count_whole() as u64);
+    say(b" cells\n");
+}
+
+fn show_word(text: &[u8], n: u16) {
+    fill(text, &[(n / 256) as u8, (n % 256) as u8]);
 }
 
 fn show_increment_ar(from: u16) {
     let cells = registers::write_ar(reset_cells(), from);
-    let a = registers::ar(&cells);
-    let b = registers::ar(&registers::increment_ar(cells));
-    fill(
-        b"INC AR from %%: %%\n",
-        &[
-            (a / 256) as u8,
-            (a % 256) as u8,
-            (b / 256) as u8,
-            (b % 256) as u8,
-        ],
-    );
+    let next = registers::increment_ar(cells);
+    show_word(b"INC AR from %%", registers::ar(&cells));
+    show_word(b": %%\n", registers::ar(&next));
 }
 
 fn show_increment_ix(from: u8, mpe: bool) {
@@ -121,18 +116,16 @@ pub fn cell(cells: &[u8; 128], at: u8) -> u8 {
 
 fn show_buffer() {
     let cells = registers::write_buffer(reset_cells(), 0xABCD);
-    let v = registers::buffer(&cells);
     fill(
-        b"data buffer ABCD: 0C _ 0D _ 0E _ 0F _, read %%\n",
+        b"data buffer ABCD: 0C _ 0D _ 0E _ 0F _",
         &[
             cell(&cells, 0x0C),
             cell(&cells, 0x0D),
             cell(&cells, 0x0E),
             cell(&cells, 0x0F),
-            (v / 256) as u8,
-            (v % 256) as u8,
         ],
     );
+    show_word(b", read %%\n", registers::buffer(&cells));
 }
 
 pub fn show_registers() {

@@ -1,24 +1,26 @@
 // The 64 rows of the decimal table.
-use crate::print::fill;
 use crate::print::say;
 use crate::results;
 
 // Two halves, and the carry where n is odd.
 fn show_sum(n: u8) {
-    fill(b"sum $ ", &[n]);
+    say(b"sum ");
+    io::print_decimal(1, n as u64);
     results::show_sum(true, n / 2, n / 2, n % 2 == 1);
     say(b"\n");
 }
 
 fn show_difference(n: u8) {
-    fill(b"difference $ ", &[n]);
+    say(b"difference ");
+    io::print_decimal(1, n as u64);
     results::show_difference(true, n, 0, false);
     say(b"\n");
 }
 
 // 0 less b less 1.
 fn show_below_zero(b: u8) {
-    fill(b"difference -$ ", &[b % 16 + 1]);
+    say(b"difference -");
+    io::print_decimal(1, b as u64 + 1);
     results::show_difference(true, 0, b, true);
     say(b"\n");
 }

@@ -2,17 +2,14 @@
 use crate::print::fill;
 use memory::Memory;
 
-fn show_buffer() {
-    fill(
-        b"DBF3 % DBF2 % DBF1 % DBF0 %\n",
-        &[Memory::DBF3, Memory::DBF2, Memory::DBF1, Memory::DBF0],
-    );
-}
-
 fn show_ports() {
     fill(
-        b"P0E % P0A % P0B % P0C % P0D %\n",
+        b"DBF3 % DBF2 % DBF1 % DBF0 %\nP0E % P0A % P0B % P0C % P0D %\n",
         &[
+            Memory::DBF3,
+            Memory::DBF2,
+            Memory::DBF1,
+            Memory::DBF0,
             Memory::P0E,
             Memory::P0A,
             Memory::P0B,
@@ -22,9 +19,9 @@ fn show_ports() {
     );
 }
 
-fn show_address_registers() {
+fn show_registers() {
     fill(
-        b"AR3 % AR2 % AR1 % AR0 % WR % BANK %\n",
+        b"AR3 % AR2 % AR1 % AR0 % WR % BANK %\nIXH % IXM % IXL % RPH % RPL % PSW %\n",
         &[
             Memory::AR3,
             Memory::AR2,
@@ -32,14 +29,6 @@ fn show_address_registers() {
             Memory::AR0,
             Memory::WR,
             Memory::BANK,
-        ],
-    );
-}
-
-fn show_index_registers() {
-    fill(
-        b"IXH % IXM % IXL % RPH % RPL % PSW %\n",
-        &[
             Memory::IXH,
             Memory::IXM,
             Memory::IXL,
@@ -65,9 +54,7 @@ fn show_flags() {
 }
 
 pub fn show_all() {
-    show_buffer();
     show_ports();
-    show_address_registers();
-    show_index_registers();
+    show_registers();
     show_flags();
 }

@@ -23,8 +23,6 @@ fn put(sign: u8, n: u8) -> bool {
         nibble(n);
     } else if sign == b'%' {
         byte(n);
-    } else if sign == b'$' {
-        io::print_decimal(1, n as u64);
     } else {
         say(&[sign]);
         return false;
@@ -37,7 +35,7 @@ fn number(numbers: &[u8], k: usize) -> u8 {
     if k < numbers.len() { numbers[k] } else { 0 }
 }
 
-// Prints a text with the numbers in its blanks: _ is a nibble, % a byte, $ a decimal number.
+// Prints a text with the numbers in its blanks: _ is a nibble, % a byte.
 pub fn fill(text: &[u8], numbers: &[u8]) {
     let mut k = 0;
     for i in 0..text.len() {

@@ -1,5 +1,4 @@
 // Which cells are in range.
-use crate::cells::FIXED;
 use crate::print::fill;
 use crate::setup::reset_cells;
 use crate::setup::written_cells;
@@ -26,15 +25,25 @@ fn show_place(at: u8) {
     );
 }
 
-fn show_each_place(addresses: &[u8]) {
-    let mut i = 0;
-    while i < addresses.len() {
-        show_place(addresses[i]);
-        i += 1;
-    }
+fn show_whole() {
+    show_place(0x00);
+    show_place(0x6E);
+    show_place(0x70);
+    show_place(0x7C);
+    show_place(0x7E);
+    show_place(0x7F);
 }
 
-const WHOLE: [u8; 6] = [0x00, 0x6E, 0x70, 0x7C, 0x7E, 0x7F];
+// The cells with a fixed bit.
+fn show_fixed() {
+    show_place(0x6F);
+    show_place(0x74);
+    show_place(0x75);
+    show_place(0x79);
+    show_place(0x7A);
+    show_place(0x7B);
+    show_place(0x7D);
+}
 
 pub fn show_all() {
     let reset = reset_cells();
@@ -46,6 +55,6 @@ pub fn show_all() {
             memory::in_range(&written) as u8,
         ],
     );
-    show_each_place(&WHOLE);
-    show_each_place(&FIXED);
+    show_whole();
+    show_fixed();
 }

@@ -4,7 +4,7 @@ use crate::print::say;
 
 fn show_mode(bcd: bool) {
     if bcd {
-        say(b"BCD ");
+        say(b" BCD");
     }
 }
 
@@ -14,9 +14,9 @@ pub fn show_sum(bcd: bool, a: u8, b: u8, carry: bool) -> u8 {
     let numbers = [a, b, outcome.result, outcome.carry as u8];
     show_mode(bcd);
     if carry {
-        fill(b"ADDC _+_+1: _ CY _", &numbers);
+        fill(b" ADDC _+_+1: _ CY _", &numbers);
     } else {
-        fill(b"ADD _+_: _ CY _", &numbers);
+        fill(b" ADD _+_: _ CY _", &numbers);
     }
     outcome.result
 }
@@ -26,9 +26,9 @@ pub fn show_difference(bcd: bool, a: u8, b: u8, carry: bool) -> u8 {
     let numbers = [a, b, outcome.result, outcome.carry as u8];
     show_mode(bcd);
     if carry {
-        fill(b"SUBC _-_-1: _ CY _", &numbers);
+        fill(b" SUBC _-_-1: _ CY _", &numbers);
     } else {
-        fill(b"SUB _-_: _ CY _", &numbers);
+        fill(b" SUB _-_: _ CY _", &numbers);
     }
     outcome.result
 }
@@ -40,33 +40,29 @@ fn show_zero(cmp: bool, z: bool, result: u8) {
 fn show_rotation(x: u8, carry: bool) {
     let outcome = alu::rotate(x, carry);
     fill(
-        b"RORC _ with CY _: _ CY _\n",
+        b" RORC _ with CY _: _ CY _\n",
         &[x, carry as u8, outcome.result, outcome.carry as u8],
     );
 }
 
-fn show_number(n: u8) {
-    fill(b"$ ", &[n]);
-}
-
 // Document 01, "Numbers to check by", 5 to 10. Z before is the other of Z after.
 pub fn show_cases() {
-    show_number(5);
+    io::print_decimal(1, 5);
     show_zero(false, false, show_sum(false, 9, 7, false));
-    show_number(6);
+    io::print_decimal(1, 6);
     show_zero(false, true, show_difference(false, 3, 5, false));
-    show_number(7);
+    io::print_decimal(1, 7);
     show_zero(false, true, show_sum(true, 9, 9, true));
-    show_number(8);
+    io::print_decimal(1, 8);
     show_zero(false, true, show_sum(true, 15, 15, true));
-    show_number(9);
+    io::print_decimal(1, 9);
     show_zero(false, false, show_difference(true, 0, 10, false));
-    show_number(10);
+    io::print_decimal(1, 10);
     show_rotation(0b1001, true);
 }
 
 fn show_compare(z: bool, a: u8, b: u8) {
-    fill(b"CMP 1 Z _ ", &[z as u8]);
+    fill(b"CMP 1 Z _", &[z as u8]);
     show_zero(true, z, show_difference(false, a, b, false));
 }
 
