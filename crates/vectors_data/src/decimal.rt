@@ -1,26 +1,19 @@
 // The 64 rows of the decimal table.
 use crate::print::say;
-use crate::results::show_operands;
-use crate::results::show_outcome;
+use crate::results;
 
 // Two halves, and the carry where n is odd.
 fn show_sum(n: u8) {
-    let half = n / 2;
-    let carry = n % 2 == 1;
     say(b"sum ");
     io::print_decimal(1, n as u64);
-    say(b" ");
-    show_operands(true, b"ADD", half, b"+", half, carry);
-    show_outcome(alu::add(true, half, half, carry));
+    results::show_sum(true, n / 2, n / 2, n % 2 == 1);
     say(b"\n");
 }
 
 fn show_difference(n: u8) {
     say(b"difference ");
     io::print_decimal(1, n as u64);
-    say(b" ");
-    show_operands(true, b"SUB", n, b"-", 0, false);
-    show_outcome(alu::subtract(true, n, 0, false));
+    results::show_difference(true, n, 0, false);
     say(b"\n");
 }
 
@@ -28,9 +21,7 @@ fn show_difference(n: u8) {
 fn show_below_zero(b: u8) {
     say(b"difference -");
     io::print_decimal(1, b as u64 + 1);
-    say(b" ");
-    show_operands(true, b"SUB", 0, b"-", b, true);
-    show_outcome(alu::subtract(true, 0, b, true));
+    results::show_difference(true, 0, b, true);
     say(b"\n");
 }
 

@@ -1,54 +1,60 @@
 // Which cells are in range.
-use crate::cells::FIXED;
-use crate::print::byte;
-use crate::print::flag;
-use crate::print::say;
+use crate::print::fill;
 use crate::setup::reset_cells;
 use crate::setup::written_cells;
 
-// Reset cells with one number stored as it comes, fixed bits and all.
-fn with_number(at: u8, v: u8) -> [u8; 128] {
+// Whether reset cells with one number stored as it comes, fixed bits and all, are in range.
+fn takes(at: u8, v: u8) -> u8 {
     let mut cells = reset_cells();
     cells[(at % 128) as usize] = v;
-    cells
-}
-
-fn show_number(at: u8, v: u8) {
-    let cells = with_number(at, v);
-    say(b" ");
-    flag(memory::in_range(&cells));
+    memory::in_range(&cells) as u8
 }
 
 // Each bit of a nibble, and a nibble of 16.
 fn show_place(at: u8) {
-    byte(at);
-    say(b" set to 01 02 04 08 10: in range");
-    show_number(at, 1);
-    show_number(at, 2);
-    show_number(at, 4);
-    show_number(at, 8);
-    show_number(at, 16);
-    say(b"\n");
+    fill(
+        b"% set to 01 02 04 08 10: in range _ _ _ _ _\n",
+        &[
+            at,
+            takes(at, 1),
+            takes(at, 2),
+            takes(at, 4),
+            takes(at, 8),
+            takes(at, 16),
+        ],
+    );
 }
 
-fn show_each_place(addresses: &[u8]) {
-    let mut i = 0;
-    while i < addresses.len() {
-        show_place(addresses[i]);
-        i += 1;
-    }
+fn show_whole() {
+    show_place(0x00);
+    show_place(0x6E);
+    show_place(0x70);
+    show_place(0x7C);
+    show_place(0x7E);
+    show_place(0x7F);
 }
 
-const WHOLE: [u8; 6] = [0x00, 0x6E, 0x70, 0x7C, 0x7E, 0x7F];
+// The cells with a fixed bit.
+fn show_fixed() {
+    show_place(0x6F);
+    show_place(0x74);
+    show_place(0x75);
+    show_place(0x79);
+    show_place(0x7A);
+    show_place(0x7B);
+    show_place(0x7D);
+}
 
 pub fn show_all() {
     let reset = reset_cells();
-    say(b"reset cells: in range ");
-    flag(memory::in_range(&reset));
     let written = written_cells(15);
-    say(b"\ncells written with F: in range ");
-    flag(memory::in_range(&written));
-    say(b"\n");
-    show_each_place(&WHOLE);
-    show_each_place(&FIXED);
+    fill(
+        b"reset cells: in range _\ncells written with F: in range _\n",
+        &[
+            memory::in_range(&reset) as u8,
+            memory::in_range(&written) as u8,
+        ],
+    );
+    show_whole();
+    show_fixed();
 }

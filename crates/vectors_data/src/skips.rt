@@ -1,17 +1,11 @@
 // The conditions of the six skips, at the values where they turn.
-use crate::print::flag;
-use crate::print::nibble;
+use crate::print::fill;
 use crate::print::say;
 use isa::SkipOp;
 
 fn show_skip(name: &[u8], op: SkipOp, x: u8, n4: u8) {
     say(name);
-    nibble(x);
-    say(b",#");
-    nibble(n4);
-    say(b": ");
-    flag(alu::skips(op, x, n4));
-    say(b"\n");
+    fill(b"_,#_: _\n", &[x, n4, alu::skips(op, x, n4) as u8]);
 }
 
 fn show_comparison(name: &[u8], op: SkipOp) {
