@@ -2,22 +2,21 @@
 use crate::cells::cell;
 use crate::print::fill;
 use crate::print::say;
-use crate::setup::Pointers;
 use crate::setup::reset_cells;
 use crate::setup::with_pointers;
 use memory::Memory;
 
-fn show_pointers(p: Pointers) {
+fn show_pointers(mpe: bool, ixe: bool, ix: u8) {
     fill(
         b": MPE _ IXE _ 7B _ 7C _",
-        &[p.mpe as u8, p.ixe as u8, p.ix / 16, p.ix % 16],
+        &[mpe as u8, ixe as u8, ix / 16, ix % 16],
     );
 }
 
 // An instruction on r and m, and their addresses.
-fn show_direct(p: Pointers, r: u8, m: u8) {
-    let cells = with_pointers(p);
-    show_pointers(p);
+fn show_direct(mpe: bool, ixe: bool, ix: u8, r: u8, m: u8) {
+    let cells = with_pointers(mpe, ixe, ix);
+    show_pointers(mpe, ixe, ix);
     fill(
         b", r _, m %: r % m %\n",
         &[
@@ -30,12 +29,12 @@ fn show_direct(p: Pointers, r: u8, m: u8) {
 }
 
 // A transfer between m and @r, with a column in r.
-fn show_transfer(p: Pointers, r: u8, column: u8, m: u8) {
-    let before = with_pointers(p);
+fn show_transfer(mpe: bool, ixe: bool, ix: u8, r: u8, column: u8, m: u8) {
+    let before = with_pointers(mpe, ixe, ix);
     let at = registers::register(&before, r);
     let cells = memory::write(before, at, column);
     let content = cell(&cells, at);
-    show_pointers(p);
+    show_pointers(mpe, ixe, ix);
     fill(
         b", r _ holding _, m %: r % m % @r %\n",
         &[
@@ -49,81 +48,40 @@ fn show_transfer(p: Pointers, r: u8, column: u8, m: u8) {
     );
 }
 
-const PLAIN: Pointers = Pointers {
-    mpe: false,
-    ixe: false,
-    ix: 0x00,
-};
-
-const MP_6: Pointers = Pointers {
-    mpe: true,
-    ixe: false,
-    ix: 0x60,
-};
-
-const IX_12: Pointers = Pointers {
-    mpe: false,
-    ixe: true,
-    ix: 0x12,
-};
-
-const IX_01: Pointers = Pointers {
-    mpe: false,
-    ixe: true,
-    ix: 0x01,
-};
-
-// Document 01 gives this setting a meaning, the manual does not.
-const BOTH: Pointers = Pointers {
-    mpe: true,
-    ixe: true,
-    ix: 0x61,
-};
-
 // Document 01, "Numbers to check by", 11 and 12.
 pub fn show_cases() {
     io::print_decimal(1, 11);
-    show_direct(IX_12, 0x3, 0x61);
+    show_direct(false, true, 0x12, 0x3, 0x61);
     io::print_decimal(1, 12);
-    show_transfer(PLAIN, 0x5, 8, 0x34);
+    show_transfer(false, false, 0x00, 0x5, 8, 0x34);
     io::print_decimal(1, 12);
-    show_transfer(MP_6, 0x5, 8, 0x34);
+    show_transfer(true, false, 0x60, 0x5, 8, 0x34);
 }
 
-fn show_add(section: u8, example: u8, p: Pointers) {
+fn show_add(section: u8, example: u8, mpe: bool, ixe: bool, ix: u8) {
     fill(b"7.5._ example _, ADD R003,M061", &[section, example]);
-    show_direct(p, 0x3, 0x61);
+    show_direct(mpe, ixe, ix, 0x3, 0x61);
 }
 
-fn show_store(section: u8, example: u8, p: Pointers) {
+fn show_store(section: u8, example: u8, mpe: bool, ixe: bool, ix: u8) {
     fill(b"7.5._ example _, MOV @R005,M034", &[section, example]);
-    show_transfer(p, 0x5, 0x8, 0x34);
+    show_transfer(mpe, ixe, ix, 0x5, 0x8, 0x34);
 }
 
-fn show_load(section: u8, example: u8, p: Pointers) {
+fn show_load(section: u8, example: u8, mpe: bool, ixe: bool, ix: u8) {
     fill(b"7.5._ example _, MOV M034,@R00B", &[section, example]);
-    show_transfer(p, 0xB, 0xE, 0x34);
+    show_transfer(mpe, ixe, ix, 0xB, 0xE, 0x34);
 }
 
 fn show_clearing(ix: u8) {
-    let p = Pointers {
-        mpe: false,
-        ixe: true,
-        ix: ix,
-    };
     say(b"7.5.5 example 3, M000");
-    show_direct(p, 0x0, 0x00);
+    show_direct(false, true, ix, 0x0, 0x00);
 }
 
 // The element A(N) is M000 and M001 with twice N in IX.
 fn show_element(n: u8, m: u8) {
-    let p = Pointers {
-        mpe: false,
-        ixe: true,
-        ix: n % 16 * 2,
-    };
     fill(b"7.5.5 example 4, N _, M0%", &[n, m]);
-    show_direct(p, 0x0, m);
+    show_direct(false, true, n % 16 * 2, 0x0, m);
 }
 
 fn show_elements() {
@@ -137,20 +95,21 @@ fn show_elements() {
     show_element(15, 1);
 }
 
-// The manual's examples of 7.5.3 to 7.5.5, figures 7-9 to 7-13.
+// The manual's examples of 7.5.3 to 7.5.5, figures 7-9 to 7-13: section and example, then MPE, IXE and IX.
 pub fn show_examples() {
-    show_add(3, 1, PLAIN);
-    show_store(3, 2, PLAIN);
-    show_load(3, 3, PLAIN);
-    show_store(4, 1, MP_6);
-    show_load(4, 2, MP_6);
-    show_add(5, 1, IX_12);
-    show_store(5, 2, IX_01);
+    show_add(3, 1, false, false, 0x00);
+    show_store(3, 2, false, false, 0x00);
+    show_load(3, 3, false, false, 0x00);
+    show_store(4, 1, true, false, 0x60);
+    show_load(4, 2, true, false, 0x60);
+    show_add(5, 1, false, true, 0x12);
+    show_store(5, 2, false, true, 0x01);
     show_clearing(0x00);
     show_clearing(0x6F);
     show_elements();
+    // Document 01 gives this setting a meaning, the manual does not.
     say(b"MPE and IXE, MOV @R005,M034");
-    show_transfer(BOTH, 0x5, 0x8, 0x34);
+    show_transfer(true, true, 0x61, 0x5, 0x8, 0x34);
 }
 
 fn show_register(rpl: u8) {

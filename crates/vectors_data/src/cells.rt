@@ -1,7 +1,6 @@
 // Ports, cells with fixed bits, and the registers of several cells.
 use crate::print::fill;
 use crate::print::say;
-use crate::setup::Pointers;
 use crate::setup::reset_cells;
 use crate::setup::with_pointers;
 use crate::setup::written_cells;
@@ -92,11 +91,7 @@ fn show_increment_ar(from: u16) {
 }
 
 fn show_increment_ix(from: u8, mpe: bool) {
-    let cells = with_pointers(Pointers {
-        mpe: mpe,
-        ixe: false,
-        ix: from,
-    });
+    let cells = with_pointers(mpe, false, from);
     let next = registers::increment_ix(cells);
     fill(
         b"INC IX from % with MPE _: % MPE _\n",
