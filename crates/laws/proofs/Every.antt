@@ -7,7 +7,7 @@ use Prim.Native.Nat.{ℕ, zero, suc, _+_, _<_}
 use native.Mathlib.Nat.{add-zero, eq-or-lt-of-le, le-of-suc-le-suc, le-refl, le-step, not-suc-le-zero}
 use native.Mathlib.Numerals.{add-one}
 use lib.Dec.{T, eqb, eqb·suc-zero}
-use Rattle.laws.specs.Every.{every, failures}
+use Rattle.laws.specs.Every.{every}
 
 pub and-left : (a b : Bool) → T (a && b) → T a
 and-left true b t = tt
@@ -31,6 +31,11 @@ pub every-of : (f : ℕ → Bool) (n : ℕ) → ((k : ℕ) → k < n → T (f k)
 every-of f zero h = tt
 every-of f (suc n) h =
     and-both (f n) (every f n) (h n (le-refl (suc n))) (every-of f n (λ k l. h k (le-step l)))
+
+-- at how many of 0 to n - 1 f fails
+abbrev pub failures : (ℕ → Bool) → ℕ → ℕ
+failures f zero = 0
+failures f (suc n) = failures f n + cond (f n) 0 1
 
 one-more : (b : Bool) (n : ℕ) (rest : Bool) → eqb n 0 ≡ rest → eqb (n + cond b 0 1) 0 ≡ (b && rest)
 one-more true n rest e = ap (λ (m : ℕ). eqb m 0) (add-zero n) ∙ e

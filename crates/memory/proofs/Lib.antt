@@ -1,3 +1,4 @@
+pub mod Staying
 pub mod Ports
 pub mod Again
 pub mod Ranged
