@@ -106,7 +106,7 @@ fn writes(
     let first = answers(&output, &answer).or_else(|| place("byte", &out, &out2));
     if let Some(first) = first {
         return Err(Finding(format!(
-            "write into {} bytes, part of a record after the inputs: {part}, {station:?}\n\
+            "write into {} bytes, part of a record after the inputs: {part}, {station:X?}\n\
              first difference: {first}\n",
             out.len()
         )));

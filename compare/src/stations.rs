@@ -52,7 +52,7 @@ pub fn good_file(random: &mut Random) -> Result<(Station, Vec<u8>), Finding> {
     match write(&station) {
         Ok(file) => Ok((station, file)),
         Err(refusal) => Err(Finding(format!(
-            "the second emulator refuses a good station with {refusal}\n{station:?}\n"
+            "the second emulator refuses a good station with {refusal}\n{station:X?}\n"
         ))),
     }
 }
