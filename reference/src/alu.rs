@@ -1,4 +1,5 @@
-//! Arithmetic, logic and rotation (document 01, "Results"; source 000, 11.2 to 11.7).
+//! Arithmetic, logic and rotation (document 01, "Results"; source 000, 11.2 to
+//! 11.7).
 
 use crate::fault::{self, fault};
 use crate::machine::{Input, Machine};
