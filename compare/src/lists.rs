@@ -125,7 +125,8 @@ impl Walk<'_> {
     fn count(&mut self, before: &Machine, tally: &mut Tally) {
         let word = self.case.rom[usize::from(before.pc)];
         let skipped = before.skip == 1;
-        if before.pc == 1023 && (skipped || !words::jumps(word)) {
+        let goes_on = skipped || !words::jumps(word);
+        if goes_on && before.pc == 1023 && self.machine.pc == 0 {
             tally.see("wraps at 1,023");
         }
         if skipped {

@@ -109,7 +109,7 @@ pub const PARTS: &[Part] = &[
     Part {
         name: "lists",
         cases: 4_096,
-        few: 100,
+        few: 60,
         numbers: &[0, 1, 255],
         things: &[
             "wraps at 1,023",
