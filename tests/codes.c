@@ -6,16 +6,24 @@
 static int is_listed(uint16_t word, const char *name, uint8_t first, uint8_t second, uint16_t addr) {
     static const char *const rows[] = POLLWEZEN_ROWS;
     pollwezen_listed l = pollwezen_decode(word);
-    return l.number == POLLWEZEN_DONE && strcmp(rows[l.row], name) == 0 && l.first == first && l.second == second
-        && l.addr == addr;
+    return l.number == POLLWEZEN_DONE && l.row < sizeof rows / sizeof rows[0] && strcmp(rows[l.row], name) == 0
+        && l.first == first && l.second == second && l.addr == addr;
 }
 
 static int is_coded(pollwezen_coded c, uint8_t number, uint16_t word) {
     return c.number == number && c.word == word;
 }
 
-/* Document 01, "Numbers to check by" and "Words". */
+/* Document 01, "Numbers to check by", 1 to 4, and "Words". */
 static void words(void) {
+    expect(is_listed(0x02F3, "ADD r,m", 3, 0x2F, 0), "1. ADD 3,2FH");
+    expect(is_listed(0x82F5, "ADD m,#n4", 0x2F, 5, 0), "2. ADD 2FH,#5");
+    expect(is_listed(0x4908, "SKE m,#n4", 0x10, 8, 0), "3. SKE 10H,#8");
+    expect(is_listed(0xE010, "CALL addr", 0, 0, 0x010), "4. CALL 010H");
+    expect(is_coded(pollwezen_encode(0, 3, 0x2F, 0), 0, 0x02F3), "1. the word of ADD 3,2FH");
+    expect(is_coded(pollwezen_encode(1, 0x2F, 5, 0), 0, 0x82F5), "2. the word of ADD 2FH,#5");
+    expect(is_coded(pollwezen_encode(18, 0x10, 8, 0), 0, 0x4908), "3. the word of SKE 10H,#8");
+    expect(is_coded(pollwezen_encode(37, 0, 0, 0x010), 0, 0xE010), "4. the word of CALL 010H");
     expect(is_listed(0x0234, "ADD r,m", 4, 0x23, 0), "ADD 4,23H");
     expect(is_listed(0xE905, "MOV m,#n4", 0x10, 5, 0), "MOV 10H,#5");
     expect(is_listed(0x6401, "BR addr", 0, 0, 0x401), "BR 401");

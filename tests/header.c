@@ -39,7 +39,8 @@ static void steps(void) {
     before = r;
     expect(pollwezen_step(program, 5, &r, none) == POLLWEZEN_STANDBY && same(&r, &before), "it stands by");
     r.standby = 0;
-    expect(pollwezen_step(program, 5, &r, none) == 7 && r.pc == 4, "RET with an empty stack");
+    before = r;
+    expect(pollwezen_step(program, 5, &r, none) == 7 && same(&r, &before), "RET with an empty stack");
     r.pc = 2;
     expect(pollwezen_step(program, 5, &r, none) == POLLWEZEN_DONE && r.levels == 1 && r.stack[0] == 3 && r.pc == 4, "CALL");
     expect(pollwezen_step(program, 5, &r, none) == POLLWEZEN_DONE && r.levels == 0 && r.stack[0] == 0 && r.pc == 3, "RET");
@@ -70,19 +71,23 @@ static void out_of_range(void) {
         ran = pollwezen_run(program, 5, &r, in, 3);
         expect(ran.number == 1 && ran.steps == 0 && same(&r, &before), "a run out of range");
     }
-    pollwezen_record r = pollwezen_reset();
-    expect(pollwezen_step(program, 0, &r, none) == 1, "a ROM of no words");
-    expect(pollwezen_run(program, 5, &r, none, 65536).number == 1, "a budget too large");
+    pollwezen_record r = pollwezen_reset(), before = r;
+    expect(pollwezen_step(program, 0, &r, none) == 1 && same(&r, &before), "a step in a ROM of no words");
+    pollwezen_report ran = pollwezen_run(program, 0, &r, none, 3);
+    expect(ran.number == 1 && ran.steps == 0 && same(&r, &before), "a run in a ROM of no words");
+    ran = pollwezen_run(program, 5, &r, none, 65536);
+    expect(ran.number == 1 && ran.steps == 0 && same(&r, &before), "a budget too large");
 }
 
 static void runs(void) {
     pollwezen_record r = pollwezen_reset();
     pollwezen_report ran = pollwezen_run(program, 5, &r, none, 65535);
     expect(ran.steps == 4 && ran.number == POLLWEZEN_DONE && r.standby == 1, "a run up to HALT");
+    pollwezen_record before = r;
     pollwezen_input release = none;
     release.release = 1;
     ran = pollwezen_run(program, 5, &r, release, 65535);
-    expect(ran.steps == 0 && ran.number == 7 && r.standby == 1, "a run refused at its first step");
+    expect(ran.steps == 0 && ran.number == 7 && same(&r, &before), "a run refused at its first step");
     r = pollwezen_reset();
     expect(pollwezen_run(program, 5, &r, none, 2).steps == 2 && r.pc == 2, "a run up to its budget");
 }

@@ -2,184 +2,262 @@
 //!
 //!     bench [PAIRS]
 //!
-//! Each row is the median of so many pairs of runs, taken in turn on records
-//! that start alike, and the spread from the 10th to the 90th percentile. A
-//! pair whose answers differ stops it, and so do records that differ.
+//! Each row is the median of so many pairs of calls, taken in turn on records
+//! and buffers that are refilled alike before every call, and the spread from
+//! the 10th to the 90th percentile. A pair whose answers, records or buffers
+//! differ stops it.
 
 mod roms;
+mod row;
 
-use std::env;
 use std::hint::black_box;
-use std::time::Instant;
+use std::{env, fs};
 
 use pollwezen_host as proved;
 use reference::station::{read_into, write, write_into};
-use reference::{transcript, Input, Machine};
+use reference::{transcript, Input, Machine, Station, Verdict};
 
-const INPUT: Input = Input { pins: [5, 9, 3, 12, 1], directions: [15, 0, 15, 3, 2], release: 0 };
+use roms::INPUT;
+use row::{Row, Side};
 
-/// Times of one emulator, in nanoseconds per unit of work.
-struct Times(Vec<f64>);
+/// What stands in a lent buffer before a call.
+const OLD: u8 = 0x5A;
 
-impl Times {
-    fn at(&mut self, percent: usize) -> f64 {
-        self.0.sort_by(f64::total_cmp);
-        self.0[(self.0.len() - 1) * percent / 100]
-    }
-}
-
-/// One row: each closure does the work once and gives what is compared.
-fn row<T: PartialEq + std::fmt::Debug>(
-    name: &str,
-    pairs: usize,
-    units: f64,
-    mut native: impl FnMut() -> T,
-    mut ours: impl FnMut() -> T,
-) {
-    let (mut a, mut b) = (Times(vec![]), Times(vec![]));
-    for _ in 0..pairs {
-        let start = Instant::now();
-        let x = black_box(native());
-        a.0.push(start.elapsed().as_nanos() as f64 / units);
-        let start = Instant::now();
-        let y = black_box(ours());
-        b.0.push(start.elapsed().as_nanos() as f64 / units);
-        assert_eq!(x, y, "{name}");
-    }
+fn main() {
+    let pairs: usize = env::args().nth(1).map_or(301, |n| n.parse().expect("a number of pairs"));
+    assert!(pairs > 0, "at least one pair");
     println!(
-        "| {name} | {:.1} ({:.1} to {:.1}) | {:.1} ({:.1} to {:.1}) | {:.2} |",
-        a.at(50),
-        a.at(10),
-        a.at(90),
-        b.at(50),
-        b.at(10),
-        b.at(90),
-        b.at(50) / a.at(50)
+        "ns per step, word, byte or record: median of {pairs} pairs of calls (10th to 90th \
+         percentile), the two emulators first in turn; records and buffers are refilled alike \
+         before every call, outside the timed part; {}; {}\n",
+        env!("COMPILER"),
+        cpu()
     );
+    println!("| what | second emulator, ns | proved, ns | ratio |");
+    println!("|---|---|---|---|");
+    let blink = roms::blink();
+    run("run of 1,000 steps, blinking", &blink, pairs, 1_000);
+    run("run of 10,000 steps, blinking", &blink, pairs, 10_000);
+    run("run of 65,535 steps, blinking", &blink, pairs, 65_535);
+    let arithmetic = roms::arithmetic();
+    run("run of 65,535 steps, arithmetic with index and decimal", &arithmetic, pairs, 65_535);
+    run("run of 65,535 steps, calls", &roms::calls(), pairs, 65_535);
+    run("run of 65,535 steps, one branch", &roms::branch(), pairs, 65_535);
+    for boxes in [1, 10, 100, 1_000] {
+        runs_in_turn(&blink, pairs, boxes);
+    }
+    single_steps(&blink, pairs);
+    let station = roms::largest();
+    check(&station, pairs);
+    files(&station, pairs);
 }
 
-fn runs(name: &str, rom: &[u16], pairs: usize, budget: u32) {
-    let (mut a, mut b) = (Machine::reset(), proved::reset());
-    row(
-        name,
-        pairs,
-        f64::from(budget),
-        || {
-            let report = reference::run(black_box(rom), &mut a, &INPUT, budget);
-            (report.steps, report.refusal, a.clone())
-        },
-        || {
-            let report = proved::run(black_box(rom), &mut b, &INPUT, budget);
-            (report.steps, report.number, b.clone())
-        },
-    );
+/// The model of the CPU.
+fn cpu() -> String {
+    let text = fs::read_to_string("/proc/cpuinfo").unwrap_or_default();
+    let model = text.lines().find_map(|line| line.strip_prefix("model name")?.split_once(": "));
+    model.map_or("unknown CPU".to_string(), |(_, name)| name.to_string())
 }
 
-/// Single steps, each with its range test. The proved one is called on a copy of the record.
-fn steps(rom: &[u16], pairs: usize) {
-    const STEPS: u32 = 10_000;
-    let (mut a, mut b) = (Machine::reset(), proved::reset());
-    row(
-        "single steps, blinking",
-        pairs,
-        f64::from(STEPS),
-        || {
-            for _ in 0..STEPS {
-                black_box(reference::step(black_box(rom), &mut a, &INPUT));
-            }
-            a.clone()
+fn run(name: &str, rom: &[u16], pairs: usize, budget: u32) {
+    let row = Row { name, units: budget.into(), pairs };
+    let native = Side {
+        lent: Machine::reset(),
+        refill: |machine| *machine = Machine::reset(),
+        call: |machine: &mut Machine| {
+            let (rom, input, budget) = (black_box(rom), black_box(&INPUT), black_box(budget));
+            let report = reference::run(rom, machine, input, budget);
+            (report.steps, report.refusal)
         },
-        || {
-            for _ in 0..STEPS {
-                black_box(proved::step(black_box(rom), &mut b, &INPUT));
-            }
-            b.clone()
+    };
+    let proved = Side {
+        lent: proved::reset(),
+        refill: |machine| *machine = proved::reset(),
+        call: |machine: &mut Machine| {
+            let (rom, input, budget) = (black_box(rom), black_box(&INPUT), black_box(budget));
+            let report = proved::run(rom, machine, input, budget);
+            (report.steps, report.number)
         },
-    );
+    };
+    row.print(native, proved, |a, b| a == b);
 }
 
 /// A run of 100 steps on each of so many records in turn.
-fn boxes(rom: &[u16], pairs: usize, number: usize) {
-    let mut a = vec![Machine::reset(); number];
-    let mut b = vec![proved::reset(); number];
-    row(
-        &format!("runs of 100 steps on {number} records in turn"),
-        pairs,
-        100.0 * number as f64,
-        || a.iter_mut().map(|m| reference::run(black_box(rom), m, &INPUT, 100).steps).sum::<u32>(),
-        || b.iter_mut().map(|m| proved::run(black_box(rom), m, &INPUT, 100).steps).sum::<u32>(),
-    );
-    assert!(a == b, "records differ");
-}
-
-fn check(pairs: usize) {
-    let (rom, sheet) = (vec![0x3CF0; 1024], vec![0; 1024]);
-    row(
-        "verify, per word of 1,024",
-        pairs,
-        1024.0,
-        || reference::verify(black_box(&rom), black_box(&sheet)) == reference::Verdict::Pass,
-        || proved::verify(black_box(&rom), black_box(&sheet)).number == 0,
-    );
-}
-
-/// The largest file: read, written and printed. The proved reader and writer use lent buffers of the largest sizes.
-fn files(pairs: usize) {
-    let station = roms::largest();
-    let file = write(&station).expect("a good station");
-    let inputs = file[file.len() - 11 * station.inputs.len()..].to_vec();
-    let (mut rom, mut sheet, mut held) = ([0; 1024], [0; 1024], vec![0; 45_045]);
-    let mut records = vec![Input::default(); 4095];
-    let (mut rom2, mut sheet2) = ([0; 1024], [0; 1024]);
-    row(
-        "read the largest file, per byte",
-        pairs,
-        file.len() as f64,
-        || read_into(black_box(&file), &mut rom2, &mut sheet2, &mut records).map(|c| c.inputs),
-        || match proved::read(black_box(&file), &mut rom, &mut sheet, &mut held) {
-            counts if counts.number == 0 => Ok(counts.records),
-            counts => Err(counts.number),
+fn runs_in_turn(rom: &[u16], pairs: usize, boxes: usize) {
+    const STEPS: u32 = 100;
+    let name = format!("runs of {STEPS} steps on {boxes} records in turn");
+    let row = Row { name: &name, units: f64::from(STEPS) * boxes as f64, pairs };
+    let native = Side {
+        lent: vec![Machine::reset(); boxes],
+        refill: |machines| machines.fill(Machine::reset()),
+        call: |machines: &mut Vec<Machine>| {
+            let (rom, input) = (black_box(rom), black_box(&INPUT));
+            machines.iter_mut().map(|m| reference::run(rom, m, input, STEPS).steps).sum::<u32>()
         },
-    );
-    assert!(rom[..] == station.rom && sheet[..] == station.depths && held == inputs);
-    let (mut out, mut out2) = (vec![0; 48_125], vec![0; 48_125]);
-    row(
-        "write the largest file, per byte",
-        pairs,
-        file.len() as f64,
-        || write_into(black_box(&station), &mut out2).expect("room"),
-        || proved::write(black_box(&station.rom), &station.depths, &inputs, &mut out).length,
-    );
-    assert!(out == file && out2 == file);
-    let mut text = vec![0; 100_000];
-    row(
-        "transcript of 4,095 records, per record",
-        pairs,
-        4095.0,
-        || transcript(black_box(&file)).into_bytes(),
-        || {
-            let length = proved::transcript(black_box(&file), &mut text).length;
-            text[..length].to_vec()
+    };
+    let proved = Side {
+        lent: vec![proved::reset(); boxes],
+        refill: |machines| machines.fill(proved::reset()),
+        call: |machines: &mut Vec<Machine>| {
+            let (rom, input) = (black_box(rom), black_box(&INPUT));
+            machines.iter_mut().map(|m| proved::run(rom, m, input, STEPS).steps).sum::<u32>()
         },
-    );
+    };
+    row.print(native, proved, |a, b| a == b);
 }
 
-fn main() {
-    let pairs = env::args().nth(1).map_or(301, |n| n.parse().expect("a number of pairs"));
-    let blink = roms::blink();
-    println!("| what | second emulator, ns | proved, ns | ratio |");
-    println!("|---|---|---|---|");
-    runs("run, blinking", &blink, pairs, 65_535);
-    runs("run, arithmetic with index and decimal", &roms::arithmetic(), pairs, 65_535);
-    runs("run, calls", &roms::calls(), pairs, 65_535);
-    runs("run, one branch", &roms::branch(), pairs, 65_535);
-    for budget in [1_000, 10_000] {
-        runs(&format!("run of {budget} steps, blinking"), &blink, pairs, budget);
+/// Single steps, each with its range test. The proved step is called on a copy
+/// of the record in C's layout.
+fn single_steps(rom: &[u16], pairs: usize) {
+    const STEPS: u32 = 10_000;
+    let row = Row { name: "single steps, blinking", units: STEPS.into(), pairs };
+    let native = Side {
+        lent: Machine::reset(),
+        refill: |machine| *machine = Machine::reset(),
+        call: |machine: &mut Machine| {
+            for _ in 0..STEPS {
+                black_box(reference::step(black_box(rom), machine, black_box(&INPUT)));
+            }
+        },
+    };
+    let proved = Side {
+        lent: proved::reset(),
+        refill: |machine| *machine = proved::reset(),
+        call: |machine: &mut Machine| {
+            for _ in 0..STEPS {
+                black_box(proved::step(black_box(rom), machine, black_box(&INPUT)));
+            }
+        },
+    };
+    row.print(native, proved, |a, b| a == b);
+}
+
+/// The check of a ROM that passes. It is lent nothing that it writes.
+fn check(station: &Station, pairs: usize) {
+    let Station { rom, depths, .. } = station;
+    let row = Row { name: "verify, per word of 1,024", units: rom.len() as f64, pairs };
+    let native = Side {
+        lent: (),
+        refill: |_| (),
+        call: |_: &mut ()| match reference::verify(black_box(rom), black_box(depths)) {
+            Verdict::Pass => (0, 0, 0),
+            Verdict::Fail { word, rule } => (254, word, rule),
+            Verdict::Refused(number) => (number, 0, 0),
+        },
+    };
+    let proved = Side {
+        lent: (),
+        refill: |_| (),
+        call: |_: &mut ()| {
+            let checked = proved::verify(black_box(rom), black_box(depths));
+            (checked.number, checked.word, checked.rule)
+        },
+    };
+    row.print(native, proved, |_, _| true);
+}
+
+/// The largest file: read, written and printed.
+fn files(station: &Station, pairs: usize) {
+    let file = write(station).expect("a good station");
+    let inputs = &file[file.len() - 11 * station.inputs.len()..];
+    read_file(station, &file, inputs, pairs);
+    write_file(station, &file, inputs, pairs);
+    print_file(&file, station.inputs.len(), pairs);
+}
+
+/// Lent buffers of the largest sizes, for a reader.
+struct Buffers<T> {
+    rom: Vec<u16>,
+    sheet: Vec<u8>,
+    inputs: Vec<T>,
+}
+
+impl<T: Copy> Buffers<T> {
+    fn new(old: T, inputs: usize) -> Buffers<T> {
+        Buffers { rom: vec![0; 1024], sheet: vec![0; 1024], inputs: vec![old; inputs] }
     }
-    for number in [1, 10, 100, 1_000] {
-        boxes(&blink, pairs, number);
+
+    fn refill(&mut self, old: T) {
+        self.rom.fill(u16::from(OLD));
+        self.sheet.fill(OLD);
+        self.inputs.fill(old);
     }
-    steps(&blink, pairs);
-    check(pairs);
-    files(pairs);
+}
+
+fn read_file(station: &Station, file: &[u8], inputs: &[u8], pairs: usize) {
+    const OLD_INPUT: Input = Input { pins: [OLD; 5], directions: [OLD; 5], release: OLD };
+    let row = Row { name: "read the largest file, per byte", units: file.len() as f64, pairs };
+    let native = Side {
+        lent: Buffers::new(OLD_INPUT, station.inputs.len()),
+        refill: |lent| lent.refill(OLD_INPUT),
+        call: |lent: &mut Buffers<Input>| {
+            let file = black_box(file);
+            match read_into(file, &mut lent.rom, &mut lent.sheet, &mut lent.inputs) {
+                Ok(counts) => (0, counts.words, counts.depths, counts.inputs),
+                Err(number) => (number, 0, 0, 0),
+            }
+        },
+    };
+    let proved = Side {
+        lent: Buffers::new(OLD, inputs.len()),
+        refill: |lent| lent.refill(OLD),
+        call: |lent: &mut Buffers<u8>| {
+            let file = black_box(file);
+            let c = proved::read(file, &mut lent.rom, &mut lent.sheet, &mut lent.inputs);
+            (c.number, c.words, c.entries, c.records)
+        },
+    };
+    row.print(native, proved, |a, b| {
+        let words = a.rom == station.rom && b.rom == station.rom;
+        let entries = a.sheet == station.depths && b.sheet == station.depths;
+        words && entries && a.inputs == station.inputs && b.inputs == inputs
+    });
+}
+
+fn write_file(station: &Station, file: &[u8], inputs: &[u8], pairs: usize) {
+    let row = Row { name: "write the largest file, per byte", units: file.len() as f64, pairs };
+    let native = Side {
+        lent: vec![OLD; file.len()],
+        refill: |out| out.fill(OLD),
+        call: |out: &mut Vec<u8>| match write_into(black_box(station), out) {
+            Ok(length) => (0, length),
+            Err(number) => (number, 0),
+        },
+    };
+    let proved = Side {
+        lent: vec![OLD; file.len()],
+        refill: |out| out.fill(OLD),
+        call: |out: &mut Vec<u8>| {
+            let Station { rom, depths, .. } = black_box(station);
+            let output = proved::write(rom, depths, black_box(inputs), out);
+            (output.number, output.length)
+        },
+    };
+    row.print(native, proved, |a, b| a == file && b == file);
+}
+
+/// The second emulator makes its text itself; the proved one has a lent buffer.
+fn print_file(file: &[u8], records: usize, pairs: usize) {
+    let name = "transcript of 4,095 records, per record";
+    let row = Row { name, units: records as f64, pairs };
+    let native = Side {
+        lent: String::new(),
+        refill: |text| *text = String::new(),
+        call: |text: &mut String| {
+            *text = transcript(black_box(file));
+            (0, text.len())
+        },
+    };
+    let proved = Side {
+        lent: vec![OLD; 100_000],
+        refill: |out| out.fill(OLD),
+        call: |out: &mut Vec<u8>| {
+            let output = proved::transcript(black_box(file), out);
+            (output.number, output.length)
+        },
+    };
+    row.print(native, proved, |text, out| {
+        let (front, rest) = out.split_at(text.len());
+        front == text.as_bytes() && rest.iter().all(|&byte| byte == OLD)
+    });
 }

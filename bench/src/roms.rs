@@ -1,7 +1,11 @@
 //! The ROMs that are timed. Each goes on for ever and is never refused.
 
 use reference::Instruction::{self, *};
-use reference::{encode, Input, Station};
+use reference::{encode, verify, Input, Station, Verdict};
+
+/// The input of every step.
+pub const INPUT: Input =
+    Input { pins: [5, 9, 3, 12, 1], directions: [15, 0, 15, 3, 2], release: 0 };
 
 fn rom(program: &[Instruction]) -> Vec<u16> {
     program.iter().map(|&i| encode(i).expect("operands fit")).collect()
@@ -57,10 +61,64 @@ pub fn branch() -> Vec<u16> {
     rom(&[Br { addr: 0 }])
 }
 
-/// The largest station: blinking, then NOPs, a sheet that passes, and 4,095 input records.
+/// Words of most kinds in blocks of eight, with a sheet that passes: 80 blocks
+/// at level 0, which call 32 at level 1, which call 16 at level 2.
+fn mixed() -> (Vec<u16>, Vec<u8>) {
+    let level = |block: u16| match block {
+        0..=79 => 0,
+        80..=111 => 1,
+        _ => 2,
+    };
+    let rom = (0..128).flat_map(|block| match level(block) {
+        0 => rom(&main_block(block)),
+        1 => rom(&calling_block(block)),
+        _ => rom(&called_block()),
+    });
+    (rom.collect(), (0..1024).map(|word| level(word / 8)).collect())
+}
+
+fn main_block(block: u16) -> [Instruction; 8] {
+    [
+        AddMN { m: 0x10, n: 3 },
+        Ske { m: 0x10, n: 5 },
+        Br { addr: 8 * block + 3 },
+        SubcRM { r: 2, m: 0x21 },
+        Call { addr: 8 * (80 + block % 32) },
+        Ld { r: 4, m: 0x10 },
+        MovMN { m: 0x70, n: 9 },
+        Br { addr: 8 * ((block + 1) % 80) },
+    ]
+}
+
+fn calling_block(block: u16) -> [Instruction; 8] {
+    [
+        St { m: 0x31, r: 4 },
+        Sklt { m: 0x31, n: 8 },
+        Ret,
+        Movt,
+        Call { addr: 8 * (112 + block % 16) },
+        OrRM { r: 5, m: 0x32 },
+        AndMN { m: 0x33, n: 7 },
+        Retsk,
+    ]
+}
+
+fn called_block() -> [Instruction; 8] {
+    [
+        AddcMN { m: 0x40, n: 6 },
+        Skt { m: 0x40, n: 1 },
+        Retsk,
+        IncIx,
+        Rorc { r: 6 },
+        MovTo { r: 7, m: 0x41 },
+        XorRM { r: 1, m: 0x42 },
+        Ret,
+    ]
+}
+
+/// The largest station: mixed words, a sheet that passes, and 4,095 input records.
 pub fn largest() -> Station {
-    let mut words = blink();
-    words.resize(1024, encode(Nop).expect("no operand"));
-    let input = Input { pins: [5, 9, 3, 12, 1], directions: [15, 0, 15, 3, 2], release: 0 };
-    Station { rom: words, depths: vec![0; 1024], inputs: vec![input; 4095] }
+    let (rom, depths) = mixed();
+    assert_eq!(verify(&rom, &depths), Verdict::Pass);
+    Station { rom, depths, inputs: vec![INPUT; 4095] }
 }

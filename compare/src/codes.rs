@@ -4,8 +4,8 @@
 use reference::isa::Instruction::*;
 use reference::isa::{decode, encode, Instruction};
 
-use crate::host::{self, Coded};
-use crate::pair::Finding;
+use crate::host::{self, Coded, Listed};
+use crate::pair::{self, Finding};
 use crate::random::Random;
 use crate::tally::Tally;
 
@@ -69,6 +69,11 @@ const LIST: [Row; 47] = [
     Fixed(Nop),
 ];
 
+/// The instruction that the proved decoder lists.
+fn made_of(listed: Listed) -> Result<Instruction, u8> {
+    made(listed.row, listed.first, listed.second, listed.addr)
+}
+
 /// The instruction of a row, or a refusal.
 fn made(row: u8, a: u8, b: u8, addr: u16) -> Result<Instruction, u8> {
     let (instruction, spare) = match LIST.get(usize::from(row)).ok_or(1)? {
@@ -84,32 +89,65 @@ fn made(row: u8, a: u8, b: u8, addr: u16) -> Result<Instruction, u8> {
     }
 }
 
-/// A word through both decoders, and a row with operands through both encoders.
+/// What the decoder answers for a word that is no instruction.
+const NONE: Listed = Listed { number: 3, row: 0, first: 0, second: 0, addr: 0 };
+
+/// A word through both decoders and back, and a row with operands through both
+/// encoders.
 pub fn code(random: &mut Random, index: u64, tally: &mut Tally) -> Result<(), Finding> {
     let word = index as u16;
+    let listed = decodes(word, tally)?;
+    if listed.number == pair::DONE {
+        comes_back(word, listed, tally)?;
+    }
+    encodes(random, tally)
+}
+
+fn decodes(word: u16, tally: &mut Tally) -> Result<Listed, Finding> {
     let listed = host::decode(word);
-    let proved = match listed.number {
-        0 => made(listed.row, listed.first, listed.second, listed.addr),
-        number => Err(number),
+    let second = decode(word);
+    let agree = match second {
+        Some(instruction) => listed.number == pair::DONE && made_of(listed) == Ok(instruction),
+        None => listed == NONE,
     };
-    let second = decode(word).ok_or(3);
-    if proved != second {
+    if !agree {
         return Err(Finding(format!(
-            "decode of {word:04X}\nfirst difference: proved {listed:?}, second {second:?}\n"
+            "decode of word {word:04X}\nfirst difference: proved {listed:?}, second {second:?}\n"
         )));
     }
     tally.answer(listed.number);
-    let row = random.below(50) as u8;
+    Ok(listed)
+}
+
+/// What a word was decoded to gives that word in both encoders.
+fn comes_back(word: u16, listed: Listed, tally: &mut Tally) -> Result<(), Finding> {
+    let Listed { row, first, second, addr, .. } = listed;
+    let coded = host::encode(row, first, second, addr);
+    let answer = made_of(listed).and_then(encode);
+    if coded != (Coded { number: pair::DONE, word }) || answer != Ok(word) {
+        return Err(Finding(format!(
+            "encode of {listed:?}, which is word {word:04X}\n\
+             first difference: proved {coded:04X?}, second {answer:04X?}\n"
+        )));
+    }
+    tally.answer(coded.number);
+    tally.see("words that come back");
+    Ok(())
+}
+
+/// A random row.
+fn encodes(random: &mut Random, tally: &mut Tally) -> Result<(), Finding> {
+    let row = random.byte(50);
     let (first, second, addr) = operands(random, row);
     let coded = host::encode(row, first, second, addr);
     let answer = match made(row, first, second, addr).and_then(encode) {
-        Ok(word) => Coded { number: 0, word },
+        Ok(word) => Coded { number: pair::DONE, word },
         Err(number) => Coded { number, word: 0 },
     };
     if coded != answer {
         return Err(Finding(format!(
             "encode of row {row} with {first}, {second}, {addr}\n\
-             first difference: proved {coded:?}, second {answer:?}\n"
+             first difference: proved {coded:04X?}, second {answer:04X?}\n"
         )));
     }
     tally.answer(coded.number);

@@ -2,13 +2,16 @@
 //! writer and the transcript of both emulators on the same lent buffers, which
 //! are compared whole.
 
-use reference::station::{read_into, write, write_into};
+use std::fmt::Debug;
+
+use reference::station::{read, read_into, write, write_into};
 use reference::{Input, Station};
 
+use crate::files::first_line;
 use crate::host::{self, Counts, Output};
-use crate::pair::Finding;
+use crate::pair::{place, Finding};
 use crate::random::Random;
-use crate::stations::{damage, spoil, station};
+use crate::stations::{damage, faults, good_file, spoil};
 use crate::tally::Tally;
 
 /// What stands in a lent buffer before a call.
@@ -17,21 +20,21 @@ const OLD_WORD: u16 = 0x5A5A;
 /// Bytes of an input record.
 const RECORD: usize = 11;
 
-/// One station, written, damaged, read and printed.
+/// One station, its file damaged, read and printed, and itself spoiled and
+/// written.
 pub fn entry(random: &mut Random, _: u64, tally: &mut Tally) -> Result<(), Finding> {
-    let good = station(random);
-    let mut file = match write(&good) {
-        Ok(file) => file,
-        Err(refusal) => return Err(Finding(format!("a good station is refused with {refusal}\n"))),
-    };
-    if random.once_in(2) {
-        damage(random, &good, &mut file);
-    }
+    let (mut station, mut file) = good_file(random)?;
+    let damages = faults(random);
+    (0..damages).for_each(|_| damage(random, &station, &mut file));
     reads(random, &file, tally)?;
     prints(random, &file, tally)?;
-    let mut given = good;
-    let part = random.once_in(2) && spoil(random, &mut given);
-    writes(random, &given, part, tally)
+    let spoils = faults(random);
+    let part = (0..spoils).fold(false, |part, _| spoil(random, &mut station) || part);
+    writes(random, &station, part, tally)?;
+    if damages == 2 && spoils == 2 {
+        tally.see("files and stations with two faults");
+    }
+    Ok(())
 }
 
 /// Room for so much, one less or more.
@@ -45,7 +48,7 @@ fn room(random: &mut Random, needed: usize) -> usize {
 }
 
 fn reads(random: &mut Random, file: &[u8], tally: &mut Tally) -> Result<(), Finding> {
-    let (words, entries, records) = match reference::station::read(file) {
+    let (words, entries, records) = match read(file) {
         Ok(station) => (station.rom.len(), station.depths.len(), station.inputs.len()),
         Err(_) => (1024, 1024, 4095),
     };
@@ -64,18 +67,20 @@ fn reads(random: &mut Random, file: &[u8], tally: &mut Tally) -> Result<(), Find
     };
     let mut inputs2 = flat(&records2);
     inputs2.resize(rooms[2], OLD);
-    if counts == answer && rom == rom2 && sheet == sheet2 && inputs == inputs2 {
-        tally.answer(counts.number);
-        return Ok(());
+
+    let first = answers(&counts, &answer)
+        .or_else(|| place("word", &rom, &rom2))
+        .or_else(|| place("sheet entry", &sheet, &sheet2))
+        .or_else(|| place("input byte", &inputs, &inputs2));
+    if let Some(first) = first {
+        return Err(Finding(format!(
+            "read into {rooms:?}, file of {} bytes: {file:02X?}\nfirst difference: {first}\n",
+            file.len()
+        )));
     }
-    Err(Finding(format!(
-        "read into {rooms:?}, file of {} bytes: {file:02X?}\n\
-         first difference: proved {counts:?}, second {answer:?}, buffers alike: {} {} {}\n",
-        file.len(),
-        rom == rom2,
-        sheet == sheet2,
-        inputs == inputs2
-    )))
+    tally.compared += 1;
+    tally.see(read_with(counts.number));
+    Ok(())
 }
 
 /// `part` adds a byte to the flat list, which then is no whole number of records.
@@ -98,17 +103,17 @@ fn writes(
         Ok(length) => Output { number: 0, length },
         Err(number) => Output { number, length: 0 },
     };
-    if output == answer && out == out2 {
-        tally.answer(output.number);
-        tally.see(if output.number == 0 { "stations written" } else { "stations refused" });
-        return Ok(());
+    let first = answers(&output, &answer).or_else(|| place("byte", &out, &out2));
+    if let Some(first) = first {
+        return Err(Finding(format!(
+            "write into {} bytes, part of a record after the inputs: {part}, {station:X?}\n\
+             first difference: {first}\n",
+            out.len()
+        )));
     }
-    Err(Finding(format!(
-        "write into {} bytes: {station:?}\n\
-         first difference: proved {output:?}, second {answer:?}, buffers alike: {}\n",
-        out.len(),
-        out == out2
-    )))
+    tally.compared += 1;
+    tally.see(written_with(output.number));
+    Ok(())
 }
 
 /// The second emulator has input records only. A part of one is 22 after what
@@ -130,21 +135,51 @@ fn prints(random: &mut Random, file: &[u8], tally: &mut Tally) -> Result<(), Fin
         None => Output { number: 25, length: 0 },
     };
     let output = host::transcript(file, &mut out);
-    if output == answer && out == expected {
-        tally.compared += 1;
-        tally.see(if output.number == 0 { "texts" } else { "texts without room" });
-        return Ok(());
+    let first = answers(&output, &answer).or_else(|| place("byte", &out, &expected));
+    if let Some(first) = first {
+        let printed = String::from_utf8_lossy(&out[..output.length.min(out.len())]).into_owned();
+        return Err(Finding(format!(
+            "transcript into {} bytes, file of {} bytes: {file:02X?}\n\
+             proved:\n{printed}second:\n{text}first difference: {first}; {}\n",
+            out.len(),
+            file.len(),
+            first_line(&printed, &text)
+        )));
     }
-    Err(Finding(format!(
-        "transcript into {} bytes, file of {} bytes: {file:02X?}\nproved:\n{}\nsecond:\n{text}\
-         first difference: proved {output:?}, second {answer:?}\n",
-        out.len(),
-        file.len(),
-        String::from_utf8_lossy(&out)
-    )))
+    tally.compared += 1;
+    tally.see(if output.number == 0 { "texts" } else { "texts without room" });
+    Ok(())
+}
+
+/// Two answers that differ.
+fn answers<T: PartialEq + Debug>(proved: &T, second: &T) -> Option<String> {
+    (proved != second).then(|| format!("proved {proved:?}, second {second:?}"))
 }
 
 fn flat(inputs: &[Input]) -> Vec<u8> {
     let bytes = |i: &Input| i.pins.into_iter().chain(i.directions).chain([i.release]);
     inputs.iter().flat_map(bytes).collect()
+}
+
+fn read_with(number: u8) -> &'static str {
+    match number {
+        0 => "files read",
+        20 => "files refused with 20",
+        21 => "files refused with 21",
+        22 => "files refused with 22",
+        23 => "files refused with 23",
+        24 => "files refused with 24",
+        25 => "files refused with 25",
+        _ => "files refused with another number",
+    }
+}
+
+fn written_with(number: u8) -> &'static str {
+    match number {
+        0 => "stations written",
+        22 => "stations refused with 22",
+        23 => "stations refused with 23",
+        25 => "stations refused with 25",
+        _ => "stations refused with another number",
+    }
 }

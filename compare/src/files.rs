@@ -11,25 +11,19 @@ use reference::transcript;
 
 use crate::pair::Finding;
 use crate::random::Random;
-use crate::stations::{damage, station};
+use crate::stations::{damage, faults, good_file};
 use crate::tally::Tally;
 
 /// Where the program `station` stands.
 pub static PROGRAM: OnceLock<PathBuf> = OnceLock::new();
 
-/// One file: good, or damaged once.
+/// One file: good, or damaged once or twice.
 pub fn file(random: &mut Random, _: u64, tally: &mut Tally) -> Result<(), Finding> {
-    let station = station(random);
-    let mut file = match write(&station) {
-        Ok(file) => file,
-        Err(refusal) => return Err(Finding(format!("a good station is refused with {refusal}\n"))),
-    };
+    let (station, mut file) = good_file(random)?;
     if read(&file).as_ref() != Ok(&station) {
         return Err(Finding(format!("a written file reads as another station\n{file:02X?}\n")));
     }
-    if random.once_in(2) {
-        damage(random, &station, &mut file);
-    }
+    (0..faults(random)).for_each(|_| damage(random, &station, &mut file));
     if let Ok(again) = read(&file) {
         if write(&again).as_ref() != Ok(&file) {
             return Err(Finding(format!(
@@ -54,16 +48,19 @@ fn compare(file: &[u8], tally: &mut Tally) -> Result<(), Finding> {
         return Ok(());
     }
     let printed = String::from_utf8_lossy(&printed).into_owned();
-    let line = printed.lines().zip(expected.lines()).take_while(|(a, b)| a == b).count();
-    let at = |text: &str| text.lines().nth(line).unwrap_or("its end").to_string();
     Err(Finding(format!(
         "file of {} bytes: {file:02X?}\nproved:\n{printed}second:\n{expected}\
-         first difference: line {}: proved {}, second {}\n",
+         first difference: {}\n",
         file.len(),
-        line + 1,
-        at(&printed),
-        at(&expected)
+        first_line(&printed, &expected)
     )))
+}
+
+/// The first line in which two texts differ.
+pub fn first_line(proved: &str, second: &str) -> String {
+    let line = proved.lines().zip(second.lines()).take_while(|(a, b)| a == b).count();
+    let at = |text: &str| text.lines().nth(line).unwrap_or("its end").to_string();
+    format!("line {}: proved {}, second {}", line + 1, at(proved), at(second))
 }
 
 /// Runs the program on a file.
@@ -76,7 +73,11 @@ fn print(program: &Path, file: &[u8]) -> std::io::Result<Vec<u8>> {
             _ => {}
         }
     }
-    Ok(child.wait_with_output()?.stdout)
+    let output = child.wait_with_output()?;
+    if !output.status.success() {
+        return Err(std::io::Error::other(format!("it ends with {}", output.status)));
+    }
+    Ok(output.stdout)
 }
 
 fn kind(text: &str) -> &'static str {

@@ -1,13 +1,16 @@
 //! Random lists of steps and runs from reset on ROMs that pass, with the
 //! words of demand 3 tested at every moment.
 
+use reference::verify::NEVER;
 use reference::{Input, Machine};
 
+use crate::host::Report;
 use crate::pair::{self, Finding};
 use crate::random::Random;
 use crate::records;
 use crate::roms::{passing, Passing};
 use crate::tally::Tally;
+use crate::verdicts::passes;
 use crate::words;
 
 /// Calls in a list.
@@ -20,13 +23,10 @@ pub fn list(random: &mut Random, index: u64, tally: &mut Tally) -> Result<(), Fi
         _ => random.pick(&[1023, 1024, 1024]),
     };
     let case = passing(random, words as usize);
-    let checked = pair::verify(&case.rom, &case.depths)?;
-    if checked.number != pair::DONE {
-        return Err(Finding(format!("a ROM made to pass: {checked:?}\n{:04X?}\n", case.rom)));
-    }
+    passes(&case)?;
     let skipping = skipping(&case);
     let mut walk = Walk { case: &case, skipping, machine: pair::reset()?, open: 0 };
-    walk.moment()?;
+    walk.moment(&walk.machine)?;
     for _ in 0..random.below(CALLS) {
         call(random, &mut walk, tally)?;
     }
@@ -34,8 +34,9 @@ pub fn list(random: &mut Random, index: u64, tally: &mut Tally) -> Result<(), Fi
 }
 
 /// The levels of the reached RETSK, one bit each.
-fn skipping(case: &Passing) -> u16 {
-    let retsks = case.rom.iter().zip(&case.depths).filter(|(&word, _)| word == words::RETSK);
+fn skipping(case: &Passing) -> u8 {
+    let words = case.rom.iter().zip(&case.depths);
+    let retsks = words.filter(|(&word, &depth)| word == words::RETSK && depth != NEVER);
     retsks.fold(0, |levels, (_, &depth)| levels | 1 << depth)
 }
 
@@ -43,7 +44,7 @@ fn skipping(case: &Passing) -> u16 {
 fn call(random: &mut Random, walk: &mut Walk, tally: &mut Tally) -> Result<(), Finding> {
     let mut input = records::input(random);
     if random.once_in(16) {
-        spoil(random, &mut input);
+        records::spoil_input(random, &mut input);
     }
     if random.once_in(2) {
         return walk.step(&input, tally).map(|_| ());
@@ -57,19 +58,11 @@ fn call(random: &mut Random, walk: &mut Walk, tally: &mut Tally) -> Result<(), F
     walk.run(&input, budget, tally)
 }
 
-fn spoil(random: &mut Random, input: &mut Input) {
-    let port = random.below(5) as usize;
-    match random.below(3) {
-        0 => input.pins[port] = 16 + random.byte(240),
-        1 => input.directions[port] = 16 + random.byte(240),
-        _ => input.release = 2 + random.byte(254),
-    }
-}
-
 /// A machine on its way, and the open calls counted from the words that ran.
 struct Walk<'a> {
     case: &'a Passing,
-    skipping: u16,
+    /// The levels of the reached RETSK, one bit each.
+    skipping: u8,
     machine: Machine,
     open: u8,
 }
@@ -89,20 +82,19 @@ impl Walk<'_> {
         };
         let fine = number == expected && (number == pair::DONE || self.machine == before);
         if !fine {
-            return Err(self.broken(&format!("the step answers {number} for {input:?}")));
+            return Err(self.broken(&format!("both steps answer {number} for {input:?}"), &before));
         }
         if number == pair::DONE {
             self.count(&before, tally);
         }
-        self.moment()?;
+        self.moment(&before)?;
         Ok(number)
     }
 
-    /// A run, and the same one step by step: its moments, its count, its end.
+    /// The steps of a run one by one, its moments, and then the run itself: its
+    /// count and its end.
     fn run(&mut self, input: &Input, budget: u32, tally: &mut Tally) -> Result<(), Finding> {
-        let mut machine = self.machine.clone();
-        let report = pair::run(&self.case.rom, &mut machine, input, budget)?;
-        tally.answer(report.number);
+        let before = self.machine.clone();
         let in_range = input.in_range() && budget <= 65_535;
         let mut steps = 0;
         if in_range {
@@ -113,56 +105,74 @@ impl Walk<'_> {
                 }
             }
         }
-        let number = u8::from(!in_range);
-        if report.steps == steps && report.number == number && machine == self.machine {
+        let expected = Report { steps, number: u8::from(!in_range) };
+        let mut machine = before.clone();
+        let report = pair::run(&self.case.rom, &mut machine, input, budget)?;
+        tally.answer(report.number);
+        if report == expected && machine == self.machine {
             return Ok(());
         }
-        Err(self.broken(&format!(
-            "the run of {budget} reports {report:?}; step by step it has {steps} steps and \
-             number {number}; first difference {:?}",
+        let what = format!(
+            "both runs of {budget} report {report:?}; step by step it is {expected:?}; \
+             first difference {:?}",
             pair::difference(&machine, &self.machine)
-        )))
+        );
+        Err(self.broken(&what, &before))
     }
 
     /// A completed step: what it adds to the open calls, and what is worth
     /// counting. A skipped word adds nothing.
     fn count(&mut self, before: &Machine, tally: &mut Tally) {
         let word = self.case.rom[usize::from(before.pc)];
-        if before.pc == 1023 && self.machine.pc == 0 {
+        let skipped = before.skip == 1;
+        let goes_on = skipped || !words::jumps(word);
+        if goes_on && before.pc == 1023 && self.machine.pc == 0 {
             tally.see("wraps at 1,023");
         }
-        if before.skip == 1 {
+        if skipped {
             tally.see("skipped words");
             return;
         }
         if words::is_call(word) {
             self.open = self.open.wrapping_add(1);
-            // Rule 5's clause: some reached RETSK has the level just called.
-            let clause = self.skipping >> self.open & 1 == 1;
-            tally.see(if clause { "CALLs with the clause" } else { "CALLs without it" });
+            tally.see(if self.clause() { "CALLs with the clause" } else { "CALLs without it" });
         } else if words::is_return(word) {
+            tally.see(match (word == words::RET, self.clause()) {
+                (false, _) => "RETSKs",
+                (true, true) => "RETs at a level with RETSK",
+                (true, false) => "RETs at a level without",
+            });
             self.open = self.open.wrapping_sub(1);
-            tally.see(if word == words::RET { "RETs" } else { "RETSKs" });
         } else if word == words::MOVT {
             tally.see("MOVTs");
         }
     }
 
-    /// Demand 3 at this moment: the PC is in the ROM, and its sheet entry is
-    /// the number of open calls and of open levels.
-    fn moment(&self) -> Result<(), Finding> {
+    /// Rule 5's clause for the innermost call: some reached RETSK has its level.
+    fn clause(&self) -> bool {
+        self.skipping.checked_shr(self.open.into()).unwrap_or(0) & 1 == 1
+    }
+
+    /// Demand 3 at this moment, after a step from `before`: the PC is in the
+    /// ROM, and its sheet entry is the number of open calls and of open levels.
+    fn moment(&self, before: &Machine) -> Result<(), Finding> {
         let entry = self.case.depths.get(usize::from(self.machine.pc));
         if entry == Some(&self.open) && self.machine.levels == self.open {
             return Ok(());
         }
-        Err(self.broken(&format!("at this moment the entry is {entry:?}")))
+        let what = format!("the entry is {entry:?}, open calls {}", self.open);
+        Err(self.broken(&what, before))
     }
 
-    fn broken(&self, what: &str) -> Finding {
+    /// What is wrong though the two emulators agree.
+    fn broken(&self, what: &str, before: &Machine) -> Finding {
         let Passing { rom, depths } = self.case;
         Finding(format!(
-            "{what}\nopen calls {}\n{:?}\nROM: {rom:04X?}\nsheet: {depths:?}\n",
-            self.open, self.machine
+            "{what}\nword {}, before:\n{}word {}, after:\n{}ROM: {rom:04X?}\nsheet: {depths:?}\n",
+            pair::word_at(rom, before.pc),
+            pair::show(before),
+            pair::word_at(rom, self.machine.pc),
+            pair::show(&self.machine)
         ))
     }
 }

@@ -2,7 +2,8 @@
 //!
 //!     compare [--seed N] [--times K] [--station PATH] [--faults | --fault F]
 //!
-//! Without arguments the seed is fixed. K makes every part K times as long.
+//! Without arguments the seed is fixed. K makes every part K times as long;
+//! --faults has its own lengths.
 //! The exit status is 0 where the two agree everywhere.
 //!
 //! Built with the feature `faults`, --faults switches each deliberate fault of
@@ -13,7 +14,7 @@
 
 mod codes;
 mod entries;
-mod faults;
+mod events;
 mod files;
 mod lists;
 mod pair;
@@ -21,6 +22,7 @@ mod parts;
 #[cfg_attr(not(feature = "faults"), path = "no_faults.rs")]
 mod planted;
 mod random;
+mod ranges;
 mod records;
 mod roms;
 mod stations;
@@ -121,6 +123,9 @@ fn arguments() -> Result<Arguments, String> {
             "--station" => found.station = given.next().ok_or("--station needs a path")?.into(),
             other => return Err(format!("unknown argument {other}")),
         }
+    }
+    if matches!(found.plant, Plant::All) && found.times != 1 {
+        return Err("--times does not go with --faults".to_string());
     }
     Ok(found)
 }

@@ -1,8 +1,9 @@
 //! The two emulators side by side: each call goes to both, and a finding
 //! tells what differs.
 
-use std::fmt::Write;
+use std::fmt::{UpperHex, Write};
 
+use reference::machine::ROM_WORDS;
 use reference::{Answer, Input, Machine, Verdict};
 
 use crate::host::{self, Checked, Report};
@@ -11,7 +12,7 @@ use crate::host::{self, Checked, Report};
 #[derive(Debug)]
 pub struct Finding(pub String);
 
-/// Document 01's numbers for what is no refusal (include/pollwezen.h).
+/// The header's numbers for what is no refusal (include/pollwezen.h).
 pub const DONE: u8 = 0;
 const FAIL: u8 = 254;
 pub const STANDBY: u8 = 255;
@@ -38,9 +39,8 @@ pub fn step(rom: &[u16], machine: &mut Machine, input: &Input) -> Result<u8, Fin
     if number == answer && *machine == second {
         return Ok(number);
     }
-    let mut text = case("step", rom, &before, input);
-    told(&mut text, &format!("number {number}"), &format!("number {answer}"), machine, &second);
-    Err(Finding(text))
+    let left = outcome(&format!("number {number}"), &format!("number {answer}"), machine, &second);
+    Err(Finding(case("step", rom, &before, input) + &left))
 }
 
 /// One run in both, on `machine`.
@@ -58,9 +58,22 @@ pub fn run(
     if report == answer && *machine == second {
         return Ok(report);
     }
-    let mut text = case(&format!("run of {budget}"), rom, &before, input);
-    told(&mut text, &format!("{report:?}"), &format!("{answer:?}"), machine, &second);
-    Err(Finding(text))
+    let given = case(&format!("run of {budget}"), rom, &before, input);
+    let left = outcome(&format!("{report:?}"), &format!("{answer:?}"), machine, &second);
+    let step = odd_step(rom, before, input, budget);
+    Err(Finding(format!("{step}{given}{}{left}", show_rom(rom))))
+}
+
+/// The step of a run in which the two disagree, whole.
+fn odd_step(rom: &[u16], mut machine: Machine, input: &Input, budget: u32) -> String {
+    for steps in 0..budget {
+        match step(rom, &mut machine, input) {
+            Err(Finding(text)) => return format!("in a run, after {steps} steps, {text}"),
+            Ok(DONE) if machine.standby == 0 => {}
+            Ok(_) => break,
+        }
+    }
+    "in a run, though no single step disagrees\n".to_string()
 }
 
 /// The check in both.
@@ -75,58 +88,84 @@ pub fn verify(rom: &[u16], depths: &[u8]) -> Result<Checked, Finding> {
         return Ok(checked);
     }
     Err(Finding(format!(
-        "verify\nROM: {rom:04X?}\nsheet: {depths:?}\n\
-         first difference: proved {checked:?}, second {answer:?}\n"
+        "verify, {} words and {} entries\n{}sheet: {:?}\n\
+         first difference: proved {}, second {}\n",
+        rom.len(),
+        depths.len(),
+        show_rom(rom),
+        shown(depths),
+        named(rom, &checked),
+        named(rom, &answer)
     )))
 }
 
+/// A verdict with the word that it names.
+pub fn named(rom: &[u16], checked: &Checked) -> String {
+    match rom.get(usize::from(checked.word)) {
+        Some(word) if checked.number == FAIL => format!("{checked:?} ({word:04X})"),
+        _ => format!("{checked:?}"),
+    }
+}
+
 /// What a call was given.
-fn case(call: &str, rom: &[u16], before: &Machine, input: &Input) -> String {
-    let word = match rom.get(usize::from(before.pc)) {
-        Some(word) => format!("{word:04X}"),
-        None => "none".to_string(),
-    };
+pub fn case(call: &str, rom: &[u16], before: &Machine, input: &Input) -> String {
     format!(
-        "{call}, word {word} in a ROM of {} words\n{input:?}\nbefore:\n{}",
+        "{call}, word {} in a ROM of {} words\n{input:?}\nbefore:\n{}",
+        word_at(rom, before.pc),
         rom.len(),
         show(before)
     )
 }
 
+/// The word at an address, as text.
+pub fn word_at(rom: &[u16], address: u16) -> String {
+    rom.get(usize::from(address)).map_or("none".to_string(), |word| format!("{word:04X}"))
+}
+
 /// What the two answered and left.
-fn told(text: &mut String, proved: &str, second: &str, left: &Machine, other: &Machine) {
-    // Writing to a string cannot fail.
-    let _ = write!(text, "proved: {proved}\n{}second: {second}\n{}", show(left), show(other));
+fn outcome(proved: &str, second: &str, left: &Machine, other: &Machine) -> String {
     let first = match difference(left, other) {
-        None => format!("proved {proved}, second {second}"),
-        Some(_) if proved != second => format!("proved {proved}, second {second}"),
-        Some(place) => place,
+        Some(place) if proved == second => place,
+        _ => format!("proved {proved}, second {second}"),
     };
-    let _ = writeln!(text, "first difference: {first}");
+    let (left, other) = (show(left), show(other));
+    format!("proved: {proved}\n{left}second: {second}\n{other}first difference: {first}\n")
 }
 
 /// The first place where two machines differ.
 pub fn difference(proved: &Machine, second: &Machine) -> Option<String> {
-    let told = |place: String, a: u16, b: u16| {
-        (a != b).then(|| format!("{place}: proved {a:X}, second {b:X}"))
+    let rest = |m: &Machine| [m.pc, m.levels.into(), m.skip.into(), m.standby.into()];
+    let names = ["pc", "levels", "skip", "standby"];
+    let in_rest = || {
+        let mut pairs = names.iter().zip(rest(proved).into_iter().zip(rest(second)));
+        let (name, (a, b)) = pairs.find(|(_, (a, b))| a != b)?;
+        Some(format!("{name}: proved {a:X}, second {b:X}"))
     };
-    let cells = proved.cells.iter().zip(&second.cells).enumerate();
-    let stack = proved.stack.iter().zip(&second.stack).enumerate();
-    cells
-        .map(|(at, (&a, &b))| (format!("cell {at:02X}H"), u16::from(a), u16::from(b)))
-        .chain([("pc".to_string(), proved.pc, second.pc)])
-        .chain(stack.map(|(at, (&a, &b))| (format!("stack place {at}"), a, b)))
-        .chain([
-            ("levels".to_string(), u16::from(proved.levels), u16::from(second.levels)),
-            ("skip".to_string(), u16::from(proved.skip), u16::from(second.skip)),
-            ("standby".to_string(), u16::from(proved.standby), u16::from(second.standby)),
-        ])
-        .find_map(|(place, a, b)| told(place, a, b))
+    place("cell", &proved.cells, &second.cells)
+        .or_else(|| place("stack place", &proved.stack, &second.stack))
+        .or_else(in_rest)
+}
+
+/// The first place where two buffers of one length differ.
+pub fn place<T: PartialEq + UpperHex>(name: &str, proved: &[T], second: &[T]) -> Option<String> {
+    let at = proved.iter().zip(second).position(|(a, b)| a != b)?;
+    Some(format!("{name} {at:02X}H: proved {:X}, second {:X}", proved[at], second[at]))
+}
+
+/// The words of a ROM as text.
+fn show_rom(rom: &[u16]) -> String {
+    format!("ROM: {:04X?}\n", shown(rom))
+}
+
+/// What is printed of a list: as much as a ROM or a sheet can have.
+fn shown<T>(list: &[T]) -> &[T] {
+    &list[..list.len().min(ROM_WORDS)]
 }
 
 /// A machine as text: eight rows of cells, then the rest.
-fn show(machine: &Machine) -> String {
+pub fn show(machine: &Machine) -> String {
     let mut text = String::new();
+    // Writing to a string cannot fail.
     for (row, cells) in machine.cells.chunks_exact(16).enumerate() {
         let _ = write!(text, "  {row}0H ");
         for cell in cells {

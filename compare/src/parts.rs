@@ -3,7 +3,7 @@
 use crate::pair::Finding;
 use crate::random::Random;
 use crate::tally::Tally;
-use crate::{codes, entries, faults, files, lists, steps, verdicts};
+use crate::{codes, entries, events, files, lists, ranges, steps, verdicts};
 
 pub struct Part {
     pub name: &'static str,
@@ -38,7 +38,7 @@ pub const PARTS: &[Part] = &[
         cases: 65_536,
         few: 65_536,
         numbers: &[0, 1, 3, 10],
-        things: &[],
+        things: &["words that come back"],
         case: codes::code,
     },
     Part {
@@ -46,7 +46,7 @@ pub const PARTS: &[Part] = &[
         cases: 65_536,
         few: 65_536,
         numbers: &[0, 2, 3, 4, 5, 6, 7, 8, 255],
-        things: &[],
+        things: events::ALL,
         case: steps::every_word,
     },
     Part {
@@ -54,7 +54,7 @@ pub const PARTS: &[Part] = &[
         cases: 6_000_000,
         few: 200_000,
         numbers: &[0, 2, 3, 4, 5, 6, 7, 8, 255],
-        things: &[],
+        things: events::ALL,
         case: steps::random_word,
     },
     Part {
@@ -85,28 +85,39 @@ pub const PARTS: &[Part] = &[
             "with a ROM of no words",
             "with a ROM of more than 1,024 words",
             "with a budget above 65,535",
+            "with a budget of 0",
         ],
-        case: faults::one_fault,
+        case: ranges::one_fault,
     },
     Part {
         name: "verdicts",
         cases: 20_480,
-        few: 2_048,
+        few: 512,
         numbers: &[0, 1, 9, 254],
-        things: &["by rule 1", "by rule 2", "by rule 3", "by rule 4", "by rule 5", "by rule 6"],
+        things: &[
+            "by rule 1",
+            "by rule 2",
+            "by rule 3",
+            "by rule 4",
+            "by rule 5",
+            "by rule 6",
+            "sheets of more than 65,536 entries",
+            "ROMs of more than 65,536 words",
+        ],
         case: verdicts::checks,
     },
     Part {
         name: "lists",
         cases: 4_096,
-        few: 100,
+        few: 60,
         numbers: &[0, 1, 255],
         things: &[
             "wraps at 1,023",
             "skipped words",
             "CALLs with the clause",
             "CALLs without it",
-            "RETs",
+            "RETs at a level with RETSK",
+            "RETs at a level without",
             "RETSKs",
             "MOVTs",
         ],
@@ -115,9 +126,24 @@ pub const PARTS: &[Part] = &[
     Part {
         name: "entries",
         cases: 30_000,
-        few: 500,
-        numbers: &[0, 20, 21, 22, 23, 24, 25],
-        things: &["stations written", "stations refused", "texts", "texts without room"],
+        few: 600,
+        numbers: &[],
+        things: &[
+            "files read",
+            "files refused with 20",
+            "files refused with 21",
+            "files refused with 22",
+            "files refused with 23",
+            "files refused with 24",
+            "files refused with 25",
+            "stations written",
+            "stations refused with 22",
+            "stations refused with 23",
+            "stations refused with 25",
+            "files and stations with two faults",
+            "texts",
+            "texts without room",
+        ],
         case: entries::entry,
     },
     Part {

@@ -1,5 +1,5 @@
 //! The comparison tested: with each deliberate fault switched on in the second
-//! emulator, some part must find it.
+//! emulator, some part must find it, and each part must find some fault.
 
 use reference::fault::LAST;
 use reference::set_fault;
@@ -15,8 +15,8 @@ pub fn switch(fault: u64) -> bool {
     known
 }
 
-/// Every fault in turn. False where one is not found, or where something is
-/// found with none switched on.
+/// Every fault in turn. False where one is not found, where a part finds none,
+/// or where something is found with none switched on.
 pub fn all_found(seed: u64) -> bool {
     set_fault(0);
     if let Some((_, text)) = finders(seed).first() {
@@ -25,22 +25,31 @@ pub fn all_found(seed: u64) -> bool {
     }
     println!("compare: without a fault: nothing found");
     let mut lost = 0;
+    let mut idle: Vec<&str> = PARTS.iter().map(|part| part.name).collect();
     for fault in 1..=LAST {
         set_fault(fault);
         let found = finders(seed);
-        let Some((_, text)) = found.first() else {
-            println!("compare: fault {fault}: NOT FOUND");
-            lost += 1;
-            continue;
-        };
-        let names: Vec<_> = found.iter().map(|(name, _)| *name).collect();
-        let first = text.lines().find(|line| line.starts_with("first difference"));
-        let first = first.or(text.lines().nth(1)).unwrap_or_default();
-        println!("compare: fault {fault}: found by {}: {first}", names.join(", "));
+        lost += u32::from(found.is_empty());
+        println!("compare: fault {fault}: {}", told(&found));
+        idle.retain(|part| found.iter().all(|(name, _)| name != part));
     }
     set_fault(0);
-    println!("compare: faults: {LAST} switched on, {lost} not found");
-    lost == 0
+    for part in &idle {
+        println!("compare: part {part} finds NONE of the faults");
+    }
+    println!("compare: {LAST} faults, {lost} not found; {} parts that find none", idle.len());
+    lost == 0 && idle.is_empty()
+}
+
+/// The parts that found a fault, and the first difference.
+fn told(found: &[(&str, String)]) -> String {
+    let Some((_, text)) = found.first() else {
+        return "NOT FOUND".to_string();
+    };
+    let names: Vec<_> = found.iter().map(|(name, _)| *name).collect();
+    let first = text.lines().find(|line| line.starts_with("first difference"));
+    let first = first.or(text.lines().nth(1)).unwrap_or_default();
+    format!("found by {}: {first}", names.join(", "))
 }
 
 /// The parts that find something within their few cases, and what it is.

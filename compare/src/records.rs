@@ -14,8 +14,9 @@ pub fn machine(random: &mut Random, words: usize) -> Machine {
     machine
 }
 
-/// A machine at a boundary: cells, pointers and addresses are first, last or
-/// next to it. The low four bits of `flags` are IXE, MPE, BCD and CMP.
+/// A machine whose cells are mostly first and last nibbles or next to them.
+/// Index, row pointer, AR, PC and stack are weighted as in `machine`. The low
+/// four bits of `flags` are IXE, MPE, BCD and CMP.
 pub fn boundary(random: &mut Random, words: usize, flags: u8) -> Machine {
     const NIBBLES: [u8; 16] = [0, 0, 0, 1, 2, 5, 7, 8, 9, 9, 10, 11, 14, 15, 15, 15];
     let mut machine = Machine::reset();
@@ -26,6 +27,20 @@ pub fn boundary(random: &mut Random, words: usize, flags: u8) -> Machine {
     put(&mut machine, Machine::RPL, Machine::BCD, flags & 4 != 0);
     put(&mut machine, Machine::PSW, Machine::CMP, flags & 8 != 0);
     control(random, &mut machine, words);
+    machine
+}
+
+/// A machine at the end of a ROM of 1,024 words, with AR at 3FFH, no mark and
+/// so many open levels. Where CMP is 0, IX is 7FH.
+pub fn corner(random: &mut Random, flags: u8, levels: u8) -> Machine {
+    let mut machine = boundary(random, 1024, flags);
+    machine.pc = LAST_ADDRESS;
+    set_ar(&mut machine, LAST_ADDRESS);
+    if flags & 8 == 0 {
+        set_index(&mut machine, 0x7F);
+    }
+    open(random, &mut machine, levels);
+    (machine.skip, machine.standby) = (0, 0);
     machine
 }
 
@@ -47,6 +62,17 @@ pub fn input(random: &mut Random) -> Input {
     input
 }
 
+/// Puts one value out of range.
+pub fn spoil_input(random: &mut Random, input: &mut Input) {
+    let port = random.below(5) as usize;
+    let nibble = if random.once_in(2) { 16 } else { 16 + random.byte(240) };
+    match random.below(3) {
+        0 => input.pins[port] = nibble,
+        1 => input.directions[port] = nibble,
+        _ => input.release = if random.once_in(2) { 2 } else { 2 + random.byte(254) },
+    }
+}
+
 /// Every cell by a random nibble, its fixed bits 0.
 fn fill(random: &mut Random, machine: &mut Machine, content: impl Fn(u8) -> u8) {
     for (row, bits) in machine.cells.chunks_exact_mut(16).zip(WRITABLE.chunks_exact(16)) {
@@ -57,7 +83,7 @@ fn fill(random: &mut Random, machine: &mut Machine, content: impl Fn(u8) -> u8) 
     }
 }
 
-/// Index, row pointer and AR with weights; the flags stay as they fell.
+/// Index and row pointer with weights, BCD anew, and at times IXE set.
 fn weigh(random: &mut Random, machine: &mut Machine) {
     let index = match random.below(6) {
         0 => 0,
@@ -66,8 +92,7 @@ fn weigh(random: &mut Random, machine: &mut Machine) {
         3 => 0x60 | random.byte(32),
         _ => random.byte(128),
     };
-    set(machine, Machine::IXM, index >> 4);
-    set(machine, Machine::IXL, index & 0xF);
+    set_index(machine, index);
     let row = match random.below(4) {
         0 => 7,
         1 => 6,
@@ -82,20 +107,26 @@ fn weigh(random: &mut Random, machine: &mut Machine) {
 
 /// AR, PC, stack and marks.
 fn control(random: &mut Random, machine: &mut Machine, words: usize) {
-    let ar = address(random, words);
-    set(machine, Machine::AR2, (ar >> 8) as u8);
-    set(machine, Machine::AR1, (ar >> 4 & 0xF) as u8);
-    set(machine, Machine::AR0, (ar & 0xF) as u8);
+    set_ar(machine, address(random, words));
     machine.pc = if random.once_in(32) { address(random, words) } else { inside(random, words) };
-    machine.levels = random.byte(6);
-    for place in &mut machine.stack[..usize::from(machine.levels)] {
-        *place = random.pick(&[0, 1, LAST_ADDRESS, LAST_ADDRESS - 1]);
-        if *place == 1 {
-            *place = (random.bits() as u16) & LAST_ADDRESS;
-        }
-    }
+    let levels = random.byte(6);
+    open(random, machine, levels);
     machine.skip = u8::from(random.once_in(8));
     machine.standby = u8::from(random.once_in(8));
+}
+
+/// So many open levels, each with an address.
+fn open(random: &mut Random, machine: &mut Machine, levels: u8) {
+    machine.levels = levels;
+    for (place, address) in machine.stack.iter_mut().enumerate() {
+        *address = match random.below(4) {
+            _ if place >= usize::from(levels) => 0,
+            0 => 0,
+            1 => LAST_ADDRESS - 1,
+            2 => LAST_ADDRESS,
+            _ => random.word(1024),
+        };
+    }
 }
 
 /// Any address, with those around the ROM's end weighted.
@@ -118,6 +149,17 @@ fn inside(random: &mut Random, words: usize) -> u16 {
     } else {
         random.word(u64::from(words))
     }
+}
+
+fn set_ar(machine: &mut Machine, ar: u16) {
+    set(machine, Machine::AR2, (ar >> 8) as u8);
+    set(machine, Machine::AR1, (ar >> 4 & 0xF) as u8);
+    set(machine, Machine::AR0, (ar & 0xF) as u8);
+}
+
+fn set_index(machine: &mut Machine, index: u8) {
+    set(machine, Machine::IXM, index >> 4);
+    set(machine, Machine::IXL, index & 0xF);
 }
 
 /// Stores a nibble without its fixed bits.

@@ -73,7 +73,7 @@ impl Plan<'_> {
             }
         }
         if level > 0 && !random.once_in(3) {
-            return self.back(level);
+            return self.back(random, level);
         }
         self.branch(random, level)
     }
@@ -88,7 +88,7 @@ impl Plan<'_> {
             34..=35 => (next && self.depths.len() == 1024 && level <= 4).then_some(words::MOVT),
             36 => next.then(|| words::halt(random)),
             37 => Some(self.branch(random, level)),
-            _ => (level > 0).then(|| self.back(level)),
+            _ => (level > 0).then(|| self.back(random, level)),
         }
     }
 
@@ -104,8 +104,9 @@ impl Plan<'_> {
         words::br(random.pick(&self.places[usize::from(level)]))
     }
 
-    fn back(&self, level: u8) -> u16 {
-        if self.skipping >> level & 1 == 1 {
+    /// RET, or RETSK where it may stand.
+    fn back(&self, random: &mut Random, level: u8) -> u16 {
+        if self.skipping >> level & 1 == 1 && random.once_in(2) {
             words::RETSK
         } else {
             words::RET

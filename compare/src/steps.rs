@@ -3,6 +3,9 @@
 
 use std::sync::OnceLock;
 
+use reference::Machine;
+
+use crate::events;
 use crate::pair::{self, Finding};
 use crate::random::Random;
 use crate::records;
@@ -12,33 +15,50 @@ use crate::words;
 /// Boundary states of each word: four of each of the 16 settings of IXE, MPE,
 /// BCD and CMP.
 const STATES: u8 = 64;
+/// From here on the states are corners.
+const CORNERS: u8 = 48;
 
 /// The word `index` (its low 16 bits) at boundary states.
 pub fn every_word(random: &mut Random, index: u64, tally: &mut Tally) -> Result<(), Finding> {
     let word = index as u16;
-    for state in 0..STATES {
-        let mut rom = *table();
+    for state in 0..CORNERS {
         let words = length(random);
         let mut machine = records::boundary(random, words, state);
-        // The word itself: its skip mark seldom, its standby mark as it fell.
+        // Most states are for the word itself, and not for skipping it.
         if state >= 16 {
             machine.skip = 0;
         }
-        rom[usize::from(machine.pc)] = word;
-        let input = records::input(random);
-        tally.answer(pair::step(&rom[..words], &mut machine, &input)?);
+        one_step(random, word, words, machine, tally)?;
+    }
+    for state in CORNERS..STATES {
+        let machine = records::corner(random, state, state % 6);
+        one_step(random, word, 1024, machine, tally)?;
     }
     Ok(())
 }
 
 /// A random word in a random record.
 pub fn random_word(random: &mut Random, _: u64, tally: &mut Tally) -> Result<(), Finding> {
-    let mut rom = *table();
     let words = length(random);
-    let mut machine = records::machine(random, words);
-    rom[usize::from(machine.pc)] = words::any(random);
-    let input = records::input(random);
-    tally.answer(pair::step(&rom[..words], &mut machine, &input)?);
+    let machine = records::machine(random, words);
+    let word = words::any(random);
+    one_step(random, word, words, machine, tally)
+}
+
+/// One step of a machine in a ROM of so many words, with `word` at its PC.
+fn one_step(
+    random: &mut Random,
+    word: u16,
+    words: usize,
+    before: Machine,
+    tally: &mut Tally,
+) -> Result<(), Finding> {
+    let mut rom = *table();
+    rom[usize::from(before.pc)] = word;
+    let mut machine = before.clone();
+    let number = pair::step(&rom[..words], &mut machine, &records::input(random))?;
+    tally.answer(number);
+    events::count(&rom[..words], &before, number, tally);
     Ok(())
 }
 

@@ -9,21 +9,47 @@ use crate::tally::Tally;
 use crate::words;
 
 /// A passing ROM of each length in turn, then damaged forms of it, then a
-/// small random one.
+/// small random one. Some ROMs and sheets are far too long.
 pub fn checks(random: &mut Random, index: u64, tally: &mut Tally) -> Result<(), Finding> {
     let words = (index % 1024 + 1) as usize;
     let case = passing(random, words);
-    let checked = pair::verify(&case.rom, &case.depths)?;
-    tally.answer(checked.number);
-    if checked.number != pair::DONE {
-        return Err(Finding(format!("a ROM made to pass: {checked:?}\n{:04X?}\n", case.rom)));
-    }
+    passes(&case)?;
+    tally.answer(pair::DONE);
     for changes in [1, 1, 1, 2, 4] {
         let mut damaged = case.clone();
         (0..changes).for_each(|_| damage(random, &mut damaged));
         judge(&damaged, tally)?;
     }
+    if index.is_multiple_of(256) {
+        too_long(&case, tally)?;
+    }
     judge(&small(random), tally)
+}
+
+/// Both checks pass a ROM that was made to pass.
+pub fn passes(case: &Passing) -> Result<(), Finding> {
+    let Passing { rom, depths } = case;
+    let checked = pair::verify(rom, depths)?;
+    if checked.number == pair::DONE {
+        return Ok(());
+    }
+    let checked = pair::named(rom, &checked);
+    Err(Finding(format!(
+        "a ROM made to pass, and both answer {checked}\nROM: {rom:04X?}\nsheet: {depths:?}\n"
+    )))
+}
+
+/// Lengths that are those of a good case in their low sixteen bits.
+fn too_long(case: &Passing, tally: &mut Tally) -> Result<(), Finding> {
+    let Passing { mut rom, mut depths } = case.clone();
+    depths.resize(65_536 + depths.len(), 0);
+    judge(&Passing { rom: case.rom.clone(), depths: depths.clone() }, tally)?;
+    tally.see("sheets of more than 65,536 entries");
+    rom.resize(65_536 + rom.len(), words::NOP);
+    judge(&Passing { rom: rom.clone(), depths: case.depths.clone() }, tally)?;
+    judge(&Passing { rom, depths }, tally)?;
+    tally.see("ROMs of more than 65,536 words");
+    Ok(())
 }
 
 fn judge(case: &Passing, tally: &mut Tally) -> Result<(), Finding> {
@@ -53,7 +79,7 @@ pub fn damage(random: &mut Random, case: &mut Passing) {
         6..=8 => set(&mut case.depths, at, entry(random)),
         9 => case.rom[at] = random.pick(&[words::RET, words::RETSK, words::MOVT, words::NOP]),
         10..=11 => {
-            // A RETSK instead of a RET, often with a level of its own.
+            // A RETSK instead of a RET, perhaps the first at its level.
             let all = 0..case.rom.len();
             let rets: Vec<usize> = all.filter(|&at| case.rom[at] == words::RET).collect();
             if !rets.is_empty() {

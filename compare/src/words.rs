@@ -13,8 +13,12 @@ const BR: u16 = 0x0C;
 const CALL: u16 = 0x1C;
 
 pub const MOVT: u16 = 0x3810;
+const BR_AR: u16 = 0x3840;
+const CALL_AR: u16 = 0x3850;
 pub const INC_IX: u16 = 0x3880;
 pub const INC_AR: u16 = 0x3890;
+pub const POP_AR: u16 = 0x38C0;
+pub const PUSH_AR: u16 = 0x38D0;
 pub const RET: u16 = 0x38E0;
 pub const RETSK: u16 = 0x39E0;
 pub const NOP: u16 = 0x3CF0;
@@ -55,12 +59,12 @@ pub fn skip(random: &mut Random) -> u16 {
 }
 
 /// BR to an address.
-pub fn br(address: u16) -> u16 {
+pub const fn br(address: u16) -> u16 {
     BR << 11 | address
 }
 
 /// CALL of an address.
-pub fn call(address: u16) -> u16 {
+pub const fn call(address: u16) -> u16 {
     CALL << 11 | address
 }
 
@@ -72,6 +76,26 @@ pub fn is_call(word: u16) -> bool {
 /// Is this word RET or RETSK?
 pub fn is_return(word: u16) -> bool {
     word == RET || word == RETSK
+}
+
+/// Does this word, where it is an instruction, choose the next PC itself?
+pub fn jumps(word: u16) -> bool {
+    matches!(word >> 11, BR | CALL) || is_return(word) || matches!(word, BR_AR | CALL_AR)
+}
+
+/// Has this word an operand m?
+pub fn has_data(word: u16) -> bool {
+    matches!(word >> 11, 0x00..=0x06 | 0x08..=0x0B | 0x10..=0x16 | 0x18..=0x1B | 0x1D..=0x1F)
+}
+
+/// Has this word operands m and r?
+pub fn has_r(word: u16) -> bool {
+    matches!(word >> 11, 0x00..=0x06 | 0x08 | 0x0A | 0x18 | 0x1A)
+}
+
+/// Is this word MOV @r,m or MOV m,@r?
+pub fn is_indirect(word: u16) -> bool {
+    matches!(word >> 11, 0x0A | 0x1A)
 }
 
 fn data(random: &mut Random) -> u16 {

@@ -1,7 +1,19 @@
-//! Arithmetic and rotation (document 01, "Results"; source 000, 11.2 to 11.7).
+//! Arithmetic, logic and rotation (document 01, "Results"; source 000, 11.2 to
+//! 11.7).
 
 use crate::fault::{self, fault};
 use crate::machine::{Input, Machine};
+
+/// What an operation works on.
+#[derive(Clone, Copy)]
+pub(crate) struct Operands {
+    /// Where the result goes.
+    pub target: u8,
+    /// The content of the target.
+    pub a: u8,
+    /// The other operand.
+    pub b: u8,
+}
 
 impl Machine {
     /// CY as a number, for ADDC and SUBC.
@@ -15,24 +27,30 @@ impl Machine {
         self.cell(Self::RPL) & Self::BCD != 0
     }
 
-    /// ADD and ADDC: a + b + carry into `target`.
+    /// ADD and ADDC: a + b + carry.
     #[inline(always)]
-    pub(crate) fn add(&mut self, target: u8, a: u8, b: u8, carry: u8) {
-        let sum = a + b + carry;
+    pub(crate) fn add(&mut self, on: Operands, carry: u8) {
+        let sum = on.a + on.b + carry;
         let (result, carry) = if self.decimal() { decimal_sum(sum) } else { (sum & 0xF, sum > 15) };
-        self.settle(target, result, carry);
+        self.settle(on.target, result, carry);
     }
 
-    /// SUB and SUBC: a - b - borrow into `target`.
+    /// SUB and SUBC: a - b - borrow.
     #[inline(always)]
-    pub(crate) fn subtract(&mut self, target: u8, a: u8, b: u8, borrow: u8) {
-        let difference = a as i8 - b as i8 - borrow as i8;
+    pub(crate) fn subtract(&mut self, on: Operands, borrow: u8) {
+        let difference = on.a as i8 - on.b as i8 - borrow as i8;
         let (result, carry) = if self.decimal() {
             decimal_difference(difference)
         } else {
             ((difference & 0xF) as u8, difference < 0)
         };
-        self.settle(target, result, carry);
+        self.settle(on.target, result, carry);
+    }
+
+    /// AND, OR and XOR.
+    #[inline(always)]
+    pub(crate) fn combine(&mut self, on: Operands, operation: impl Fn(u8, u8) -> u8) {
+        self.store(on.target, operation(on.a, on.b));
     }
 
     /// Stores an arithmetic result with CMP 0 and sets CY and Z. With CMP 0
@@ -65,7 +83,7 @@ impl Machine {
     /// stored and CY gets nothing more (house).
     pub(crate) fn rotate(&mut self, input: &Input, r: u8) {
         let target = self.register_address(r);
-        let value = self.load_r(input, target);
+        let value = self.register(input, r);
         self.store(target, self.carry() << 3 | value >> 1);
         if target == Self::PSW && !fault(fault::RORC_PSW_CARRY) {
             return;
@@ -82,7 +100,7 @@ pub(crate) fn decimal_sum(sum: u8) -> (u8, bool) {
     match sum {
         0..=9 => (sum, false),
         10..=19 => (sum - 10, true),
-        _ => (FROM_20[usize::from(sum - 20) % 12], true),
+        _ => (FROM_20[usize::from(sum - 20)], true),
     }
 }
 
@@ -93,11 +111,11 @@ pub(crate) fn decimal_difference(difference: i8) -> (u8, bool) {
     const FROM_MINUS_16: [u8; 6] = [0xE, 0xF, 0xC, 0xD, 0xE, 0xF];
     match difference {
         0..=9 => (difference as u8, false),
-        10.. => (FROM_10[(difference - 10) as usize % 6], true),
+        10.. => (FROM_10[(difference - 10) as usize], true),
         -10..=-1 => {
             let borrow = !(fault(fault::DECIMAL_NO_BORROW) && difference == -10);
             ((difference + 10) as u8, borrow)
         }
-        _ => (FROM_MINUS_16[(difference + 16) as usize % 6], true),
+        _ => (FROM_MINUS_16[(difference + 16) as usize], true),
     }
 }

@@ -1,6 +1,7 @@
 //! The instructions' work (document 01, "Results"; source 000, chapters 3, 6
 //! and 18).
 
+use crate::alu::Operands;
 use crate::fault::{self, fault};
 use crate::isa::{addr_field, decode_group, low_field, m_field, opcode, Instruction};
 use crate::machine::{Input, Machine, LAST_ADDRESS};
@@ -25,85 +26,36 @@ impl Machine {
         let next = following(rom, self.pc);
         let (m, r, n) = (m_field(word), low_field(word), low_field(word));
         match word >> 11 {
-            opcode::ADD_RM => {
-                let (to, a, b) = self.register_and_data(input, r, m);
-                self.add(to, a, b, 0);
-            }
-            opcode::ADD_MN => {
-                let (to, a) = self.data(input, m);
-                self.add(to, a, n, 0);
-            }
-            opcode::ADDC_RM => {
-                let (to, a, b) = self.register_and_data(input, r, m);
-                self.add(to, a, b, self.carry());
-            }
-            opcode::ADDC_MN => {
-                let (to, a) = self.data(input, m);
-                self.add(to, a, n, self.carry());
-            }
-            opcode::SUB_RM => {
-                let (to, a, b) = self.register_and_data(input, r, m);
-                self.subtract(to, a, b, 0);
-            }
-            opcode::SUB_MN => {
-                let (to, a) = self.data(input, m);
-                self.subtract(to, a, n, 0);
-            }
-            opcode::SUBC_RM => {
-                let (to, a, b) = self.register_and_data(input, r, m);
-                self.subtract(to, a, b, self.carry());
-            }
-            opcode::SUBC_MN => {
-                let (to, a) = self.data(input, m);
-                self.subtract(to, a, n, self.carry());
-            }
-            opcode::AND_RM => {
-                let (to, a, b) = self.register_and_data(input, r, m);
-                self.store(to, a & b);
-            }
-            opcode::AND_MN => {
-                let (to, a) = self.data(input, m);
-                self.store(to, a & n);
-            }
-            opcode::XOR_RM => {
-                let (to, a, b) = self.register_and_data(input, r, m);
-                self.store(to, a ^ b);
-            }
-            opcode::XOR_MN => {
-                let (to, a) = self.data(input, m);
-                self.store(to, a ^ n);
-            }
-            opcode::OR_RM => {
-                let (to, a, b) = self.register_and_data(input, r, m);
-                self.store(to, a | b);
-            }
-            opcode::OR_MN => {
-                let (to, a) = self.data(input, m);
-                self.store(to, a | n);
-            }
-            opcode::LD => {
-                let (_, value) = self.data(input, m);
-                self.store(self.register_address(r), value);
-            }
-            opcode::ST => {
-                let value = self.load_r(input, self.register_address(r));
-                self.store(self.data_address(m), value);
-            }
+            opcode::ADD_RM => self.add(self.on_register(input, r, m), 0),
+            opcode::ADD_MN => self.add(self.on_data(input, m, n), 0),
+            opcode::ADDC_RM => self.add(self.on_register(input, r, m), self.carry()),
+            opcode::ADDC_MN => self.add(self.on_data(input, m, n), self.carry()),
+            opcode::SUB_RM => self.subtract(self.on_register(input, r, m), 0),
+            opcode::SUB_MN => self.subtract(self.on_data(input, m, n), 0),
+            opcode::SUBC_RM => self.subtract(self.on_register(input, r, m), self.carry()),
+            opcode::SUBC_MN => self.subtract(self.on_data(input, m, n), self.carry()),
+            opcode::AND_RM => self.combine(self.on_register(input, r, m), |a, b| a & b),
+            opcode::AND_MN => self.combine(self.on_data(input, m, n), |a, b| a & b),
+            opcode::XOR_RM => self.combine(self.on_register(input, r, m), |a, b| a ^ b),
+            opcode::XOR_MN => self.combine(self.on_data(input, m, n), |a, b| a ^ b),
+            opcode::OR_RM => self.combine(self.on_register(input, r, m), |a, b| a | b),
+            opcode::OR_MN => self.combine(self.on_data(input, m, n), |a, b| a | b),
+            opcode::LD => self.store(self.register_address(r), self.data(input, m)),
+            opcode::ST => self.store(self.data_address(m), self.register(input, r)),
             opcode::MOV_MN => self.store(self.data_address(m), n),
             opcode::MOV_TO => {
-                let (_, value) = self.data(input, m);
-                self.store(self.indirect_address(input, m, r), value);
+                self.store(self.indirect_address(input, m, r), self.data(input, m));
             }
             opcode::MOV_FROM => {
                 let value = self.load(input, self.indirect_address(input, m, r));
                 self.store(self.data_address(m), value);
             }
-            opcode::SKE => self.skip_if(self.data(input, m).1 == n),
-            opcode::SKNE => self.skip_if(self.data(input, m).1 != n),
-            opcode::SKGE => self.skip_if(self.data(input, m).1 >= n),
-            opcode::SKLT => self.skip_if(self.data(input, m).1 < n),
-            opcode::SKT => self.skip_after_test(self.data(input, m).1 & n == n),
-            opcode::SKF => self.skip_after_test(self.data(input, m).1 & n == 0),
+            opcode::SKE => self.skip_if(self.data(input, m) == n),
+            opcode::SKNE => self.skip_if(self.data(input, m) != n),
+            opcode::SKGE => self.skip_if(self.data(input, m) >= n),
+            opcode::SKLT => self.skip_if(self.data(input, m) < n),
+            opcode::SKT => self.skip_after_test(self.data(input, m) & n == n),
+            opcode::SKF => self.skip_after_test(self.data(input, m) & n == 0),
             opcode::BR => return branch_address(addr_field(word)),
             opcode::CALL => return self.call(addr_field(word), next),
             opcode::GROUP => return self.execute_group(rom, input, word, next),
@@ -154,18 +106,20 @@ impl Machine {
         Ok(next)
     }
 
-    /// The address and content of m.
+    /// The operands of an instruction on r,m.
     #[inline(always)]
-    fn data(&self, input: &Input, m: u8) -> (u8, u8) {
-        let address = self.data_address(m);
-        (address, self.load(input, address))
+    fn on_register(&self, input: &Input, r: u8, m: u8) -> Operands {
+        Operands {
+            target: self.register_address(r),
+            a: self.register(input, r),
+            b: self.data(input, m),
+        }
     }
 
-    /// The address and content of r, and the content of m.
+    /// The operands of an instruction on m,#n.
     #[inline(always)]
-    fn register_and_data(&self, input: &Input, r: u8, m: u8) -> (u8, u8, u8) {
-        let address = self.register_address(r);
-        (address, self.load_r(input, address), self.data(input, m).1)
+    fn on_data(&self, input: &Input, m: u8, n: u8) -> Operands {
+        Operands { target: self.data_address(m), a: self.data(input, m), b: n }
     }
 
     #[inline(always)]

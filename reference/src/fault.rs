@@ -9,7 +9,7 @@ use std::sync::atomic::{AtomicU32, Ordering};
 
 /// The number of the active fault, 0 for none.
 #[cfg(feature = "faults")]
-pub static FAULT: AtomicU32 = AtomicU32::new(0);
+static FAULT: AtomicU32 = AtomicU32::new(0);
 
 /// Makes fault `n` active (0: none).
 #[cfg(feature = "faults")]
@@ -78,10 +78,20 @@ pub const RELEASE_LOST: u32 = 22;
 pub const WRAP_AT_ROM_END: u32 = 23;
 /// Sheet entries 6 to 14 count as never reached.
 pub const CHECK_ODD_ENTRY: u32 = 24;
-/// A cut file is 21 even if its last byte is out of range.
+/// A section that is cut off is 21 even if it has an entry out of range.
 pub const SHORT_BEFORE_RANGE: u32 = 25;
 /// r is read from its cell, past the port rule.
 pub const R_PAST_PORT: u32 = 26;
+/// A word of the group's columns 0 to D is decoded in every row.
+pub const GROUP_ANY_ROW: u32 = 27;
+/// The encoder masks an operand that is too large to its field.
+pub const ENCODER_MASKS: u32 = 28;
+/// Closed stack places are not tested.
+pub const CLOSED_NOT_TESTED: u32 = 29;
+/// The writer tests every count before the first entry.
+pub const COUNTS_BEFORE_ENTRIES: u32 = 30;
+/// A file with bytes after its end is 24 even if an input is out of range.
+pub const EXCESS_BEFORE_RANGE: u32 = 31;
 
 /// The number of the last fault.
-pub const LAST: u32 = R_PAST_PORT;
+pub const LAST: u32 = EXCESS_BEFORE_RANGE;

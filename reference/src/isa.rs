@@ -1,6 +1,8 @@
 //! The 47 instructions and their words (document 01, "Words"; source 000,
 //! 18.1 and 18.3).
 
+use crate::fault::{self, fault};
+
 /// One instruction with its operands.
 ///
 /// `m` is row and column in one 7-bit address, `r` the column of a general
@@ -101,6 +103,9 @@ pub(crate) mod opcode {
     pub const SKF: u16 = 0x1F;
 }
 
+/// The word of RETSK, which has no operand.
+pub(crate) const RETSK: u16 = opcode::GROUP << 11 | 0x1 << 8 | 0xE << 4;
+
 /// Row and column of m.
 #[inline(always)]
 pub(crate) fn m_field(word: u16) -> u8 {
@@ -159,10 +164,13 @@ pub fn decode(word: u16) -> Option<Instruction> {
 /// Code 7 with bit 15 equal to 0: source 000's list, by column, row and r.
 #[inline(always)]
 pub(crate) fn decode_group(word: u16) -> Option<Instruction> {
-    let row = (word >> 8 & 7) as u8;
+    let mut row = (word >> 8 & 7) as u8;
     let column = word >> 4 & 0xF;
     let low = low_field(word);
     let seven = row << 4 | low;
+    if fault(fault::GROUP_ANY_ROW) && column < 0xE {
+        row = 0;
+    }
     let instruction = match (column, row, low) {
         (0x1, 0, 0) => Movt,
         (0x2, _, _) => Poke { rf: seven },
@@ -250,18 +258,12 @@ pub fn encode(instruction: Instruction) -> Result<u16, u8> {
 
 /// Opcode, 7-bit memory address, r or n.
 fn memory(opcode: u16, m: u8, low: u8) -> Result<u16, u8> {
-    if m > 0x7F || low > 0xF {
-        return Err(10);
-    }
-    Ok(opcode << 11 | u16::from(m) << 4 | u16::from(low))
+    Ok(opcode << 11 | field(m.into(), 0x7F)? << 4 | field(low.into(), 0xF)?)
 }
 
 /// Opcode and 11-bit ROM address.
 fn address(opcode: u16, addr: u16) -> Result<u16, u8> {
-    if addr > 0x7FF {
-        return Err(10);
-    }
-    Ok(opcode << 11 | addr)
+    Ok(opcode << 11 | field(addr, 0x7FF)?)
 }
 
 /// A word of the group with its row, column and low nibble.
@@ -270,9 +272,15 @@ fn group(row: u8, column: u8, low: u8) -> Result<u16, u8> {
 }
 
 /// A word of the group whose 7-bit operand lies around its column.
-fn group_seven(column: u8, seven: u8) -> Result<u16, u8> {
-    if seven > 0x7F {
+fn group_seven(column: u8, operand: u8) -> Result<u16, u8> {
+    let seven = field(operand.into(), 0x7F)? as u8;
+    group(seven >> 4, column, seven & 0xF)
+}
+
+/// An operand in a field that holds 0 to `most`; refusal 10 where it is larger.
+fn field(operand: u16, most: u16) -> Result<u16, u8> {
+    if operand > most && !fault(fault::ENCODER_MASKS) {
         return Err(10);
     }
-    group(seven >> 4, column, seven & 0xF)
+    Ok(operand & most)
 }

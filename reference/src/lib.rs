@@ -24,4 +24,4 @@ pub use transcript::transcript;
 pub use verify::{verify, Verdict};
 
 #[cfg(feature = "faults")]
-pub use fault::{set_fault, FAULT};
+pub use fault::set_fault;

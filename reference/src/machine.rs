@@ -1,5 +1,7 @@
 //! The machine's state and its inputs (document 01, "The machine's record").
 
+use crate::fault::{self, fault};
+
 /// The machine's state. Document 01 calls it the record.
 ///
 /// Every field holds plain bytes or words, so that a value out of range can
@@ -87,7 +89,7 @@ impl Machine {
             if place < open {
                 address <= LAST_ADDRESS
             } else {
-                address == 0
+                address == 0 || fault(fault::CLOSED_NOT_TESTED)
             }
         })
     }
@@ -96,9 +98,9 @@ impl Machine {
 impl Input {
     /// Are the inputs in range? If not, refusal 1.
     pub fn in_range(&self) -> bool {
-        self.pins.iter().all(|&pin| pin <= 15)
-            && self.directions.iter().all(|&direction| direction <= 15)
-            && self.release <= 1
+        // An OR, as above.
+        let nibbles = self.pins.iter().chain(&self.directions).fold(0, |all, nibble| all | nibble);
+        nibbles <= 15 && self.release <= 1
     }
 }
 

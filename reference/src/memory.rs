@@ -9,7 +9,7 @@ impl Machine {
     /// A cell as it is stored.
     #[inline(always)]
     pub(crate) fn cell(&self, address: u8) -> u8 {
-        self.cells[usize::from(address & 0x7F)]
+        self.cells[place(address)]
     }
 
     /// Reads an operand: a port bit gives the pin where its direction is 0
@@ -41,7 +41,7 @@ impl Machine {
     /// Writes a cell; its fixed bits stay 0.
     #[inline(always)]
     pub(crate) fn store(&mut self, address: u8, value: u8) {
-        let at = usize::from(address & 0x7F);
+        let at = place(address);
         self.cells[at] = value & WRITABLE[at];
     }
 
@@ -80,7 +80,7 @@ impl Machine {
     /// where IXE is set), but 7BH's low three bits wherever MPE is set.
     #[inline(always)]
     pub(crate) fn indirect_address(&self, input: &Input, m: u8, r: u8) -> u8 {
-        let mut column = self.load_r(input, self.register_address(r));
+        let mut column = self.register(input, r);
         if fault(fault::IX_IN_COLUMN) && self.indexed() {
             column |= self.cell(Self::IXL);
         }
@@ -90,9 +90,16 @@ impl Machine {
         row << 4 | column
     }
 
-    /// The content of a general register, by its full address.
+    /// The content of m.
     #[inline(always)]
-    pub(crate) fn load_r(&self, input: &Input, address: u8) -> u8 {
+    pub(crate) fn data(&self, input: &Input, m: u8) -> u8 {
+        self.load(input, self.data_address(m))
+    }
+
+    /// The content of r.
+    #[inline(always)]
+    pub(crate) fn register(&self, input: &Input, r: u8) -> u8 {
+        let address = self.register_address(r);
         if fault(fault::R_PAST_PORT) {
             return self.cell(address);
         }
@@ -160,4 +167,11 @@ impl Machine {
         self.levels = top;
         Ok(address)
     }
+}
+
+/// An address as an index. An address has seven bits; the mask says so to the
+/// compiler, which then leaves its own test out.
+#[inline(always)]
+fn place(address: u8) -> usize {
+    usize::from(address & 0x7F)
 }

@@ -91,7 +91,7 @@ pub fn write_into(station: &Station, out: &mut [u8]) -> Result<usize, u8> {
     Ok(counts.file_bytes())
 }
 
-/// Goes through a file from the front, field by field.
+/// Goes through a file from the front, section by section.
 fn scan(file: &[u8]) -> Result<Counts, u8> {
     let mut rest = Rest { bytes: file };
     if rest.pair()? != FORM {
@@ -101,26 +101,20 @@ fn scan(file: &[u8]) -> Result<Counts, u8> {
     if !word_count_allowed(words) {
         return Err(22);
     }
-    for _ in 0..words {
-        rest.pair()?;
-    }
+    rest.section(2 * words, |_| true)?;
     let depths = usize::from(rest.pair()?);
     if !depth_count_allowed(depths, words) {
         return Err(22);
     }
-    for _ in 0..depths {
-        rest.entry(entry_in_range)?;
-    }
+    rest.section(depths, |entries| entries.iter().all(|&depth| entry_in_range(depth)))?;
     let inputs = usize::from(rest.pair()?);
     if inputs > MAX_INPUTS {
         return Err(22);
     }
-    for _ in 0..inputs {
-        for _ in 0..INPUT_BYTES - 1 {
-            rest.entry(|nibble| nibble <= 15)?;
-        }
-        rest.entry(|release| release <= 1)?;
+    if fault(fault::EXCESS_BEFORE_RANGE) && rest.bytes.len() > INPUT_BYTES * inputs {
+        return Err(24);
     }
+    rest.section(INPUT_BYTES * inputs, inputs_allowed)?;
     if !rest.bytes.is_empty() {
         return Err(24);
     }
@@ -135,23 +129,35 @@ fn depth_count_allowed(depths: usize, words: usize) -> bool {
     depths == 0 || depths == words
 }
 
+/// Input records, the last of them perhaps cut off.
+fn inputs_allowed(bytes: &[u8]) -> bool {
+    let mut records = bytes.chunks_exact(INPUT_BYTES);
+    let nibbles = |bytes: &[u8]| bytes.iter().fold(0, |all, nibble| all | nibble) <= 15;
+    records.all(|record| nibbles(&record[..10]) && record[10] <= 1) && nibbles(records.remainder())
+}
+
 /// The bytes not yet read.
 struct Rest<'a> {
     bytes: &'a [u8],
 }
 
 impl Rest<'_> {
-    /// One byte, 23 where it is not allowed.
-    fn entry(&mut self, allowed: impl Fn(u8) -> bool) -> Result<u8, u8> {
-        let Some((&byte, rest)) = self.bytes.split_first() else {
+    /// The entries of a section. Those that are there come before the file's
+    /// end: 23 where one of them is not allowed, else 21 where some are lacking.
+    fn section(&mut self, length: usize, allowed: impl Fn(&[u8]) -> bool) -> Result<(), u8> {
+        let (here, rest) = self.bytes.split_at(length.min(self.bytes.len()));
+        let cut = here.len() < length;
+        if cut && fault(fault::SHORT_BEFORE_RANGE) {
             return Err(21);
-        };
-        if !allowed(byte) {
-            let cut = fault(fault::SHORT_BEFORE_RANGE) && rest.is_empty();
-            return Err(if cut { 21 } else { 23 });
+        }
+        if !allowed(here) {
+            return Err(23);
+        }
+        if cut {
+            return Err(21);
         }
         self.bytes = rest;
-        Ok(byte)
+        Ok(())
     }
 
     /// Two bytes, high byte first; an unfinished pair is 21.
@@ -189,6 +195,9 @@ fn test(station: &Station) -> Result<Counts, u8> {
     if !word_count_allowed(counts.words) || !depth_count_allowed(counts.depths, counts.words) {
         return Err(22);
     }
+    if fault(fault::COUNTS_BEFORE_ENTRIES) && counts.inputs > MAX_INPUTS {
+        return Err(22);
+    }
     if !station.depths.iter().all(|&depth| entry_in_range(depth)) {
         return Err(23);
     }
@@ -205,8 +214,8 @@ fn test(station: &Station) -> Result<Counts, u8> {
 fn pack(station: &Station, counts: Counts, file: &mut [u8]) {
     put_pair(file, 0, FORM);
     put_pair(file, 2, counts.words as u16);
-    for (place, &word) in station.rom.iter().enumerate() {
-        put_pair(file, 4 + 2 * place, word);
+    for (word, pair) in station.rom.iter().zip(file[4..].chunks_exact_mut(2)) {
+        pair.copy_from_slice(&word.to_be_bytes());
     }
     let at = counts.depths_at();
     put_pair(file, at - 2, counts.depths as u16);

@@ -1,60 +1,107 @@
 //! The text that the program `station` prints (document 01, "Station file").
 
-use std::fmt::Write;
-
 use crate::machine::Machine;
 use crate::station::{read, Station};
 use crate::step::{step, Answer};
 use crate::verify::{verify, Verdict};
 
+/// No line is longer than "4095 3FF FFFF 3FF 5 F\n".
+const LINE: usize = 22;
+
 /// What `station` prints for a file, whole.
 pub fn transcript(file: &[u8]) -> String {
-    match read(file) {
-        Err(refusal) => format!("FILE {refusal}\n"),
-        Ok(station) => sheet_line(&station) + &step_lines(&station),
-    }
+    let station = match read(file) {
+        Ok(station) => station,
+        Err(refusal) => return format!("FILE {refusal}\n"),
+    };
+    // A line for the sheet, one for each record, and the last.
+    let mut text = Text(String::with_capacity(LINE * (station.inputs.len() + 2)));
+    text.sheet(&station);
+    text.steps(&station);
+    text.0
 }
 
-/// The sheet's line. A sheet that fails does not stop the program.
-fn sheet_line(station: &Station) -> String {
-    if station.depths.is_empty() {
-        return "SHEET NONE\n".to_string();
-    }
-    match verify(&station.rom, &station.depths) {
-        Verdict::Pass => "SHEET PASS\n".to_string(),
-        Verdict::Fail { word, rule } => format!("SHEET FAIL {word:03X} {rule}\n"),
-        Verdict::Refused(_) => unreachable!("a station that was read has lengths that fit"),
-    }
-}
+/// The text so far.
+struct Text(String);
 
-/// From reset, a line per input record up to a refusal, then the end line.
-fn step_lines(station: &Station) -> String {
-    let mut text = String::new();
-    let mut machine = Machine::reset();
-    let mut steps = 0;
-    let mut refusal = 0;
-    for (record, input) in station.inputs.iter().enumerate() {
-        let before = machine.pc;
-        let word = match step(&station.rom, &mut machine, input) {
-            Answer::Done => {
-                steps += 1;
-                format!("{:04X}", station.rom[usize::from(before)])
+impl Text {
+    /// The sheet's line. A sheet that fails does not stop the program.
+    fn sheet(&mut self, station: &Station) {
+        if station.depths.is_empty() {
+            return self.0.push_str("SHEET NONE\n");
+        }
+        match verify(&station.rom, &station.depths) {
+            Verdict::Pass => self.0.push_str("SHEET PASS\n"),
+            Verdict::Fail { word, rule } => {
+                self.0.push_str("SHEET FAIL ");
+                self.hex(word, 3);
+                self.0.push(' ');
+                self.decimal(rule.into());
+                self.0.push('\n');
             }
-            Answer::Standby => "----".to_string(),
-            Answer::Refused(number) => {
-                refusal = number;
-                break;
-            }
-        };
-        // Writing to a string cannot fail.
-        let _ = writeln!(
-            text,
-            "{} {before:03X} {word} {:03X} {} {:X}",
-            record + 1,
-            machine.pc,
-            machine.levels,
-            machine.cells[usize::from(Machine::PSW)],
-        );
+            Verdict::Refused(_) => unreachable!("a station that was read has lengths that fit"),
+        }
     }
-    text + &format!("END {steps} {refusal}\n")
+
+    /// From reset, a line per input record up to a refusal, then the end line.
+    fn steps(&mut self, station: &Station) {
+        let mut machine = Machine::reset();
+        let (mut steps, mut refusal) = (0, 0);
+        for (record, input) in (1..).zip(&station.inputs) {
+            let before = machine.pc;
+            let word = match step(&station.rom, &mut machine, input) {
+                Answer::Done => Some(station.rom[usize::from(before)]),
+                Answer::Standby => None,
+                Answer::Refused(number) => {
+                    refusal = number;
+                    break;
+                }
+            };
+            steps += u16::from(word.is_some());
+            self.step(record, before, word, &machine);
+        }
+        self.0.push_str("END ");
+        self.decimal(steps);
+        self.0.push(' ');
+        self.decimal(refusal.into());
+        self.0.push('\n');
+    }
+
+    /// One record's line; without a word the machine stayed in standby.
+    fn step(&mut self, record: u16, before: u16, word: Option<u16>, after: &Machine) {
+        self.decimal(record);
+        self.0.push(' ');
+        self.hex(before, 3);
+        self.0.push(' ');
+        match word {
+            Some(word) => self.hex(word, 4),
+            None => self.0.push_str("----"),
+        }
+        self.0.push(' ');
+        self.hex(after.pc, 3);
+        self.0.push(' ');
+        self.decimal(after.levels.into());
+        self.0.push(' ');
+        self.hex(after.cells[usize::from(Machine::PSW)].into(), 1);
+        self.0.push('\n');
+    }
+
+    /// So many hex digits.
+    fn hex(&mut self, value: u16, digits: u16) {
+        for place in (0..digits).rev() {
+            self.digit(value >> (4 * place) & 0xF);
+        }
+    }
+
+    /// A number without zeros in front.
+    fn decimal(&mut self, value: u16) {
+        if value >= 10 {
+            self.decimal(value / 10);
+        }
+        self.digit(value % 10);
+    }
+
+    fn digit(&mut self, value: u16) {
+        self.0.push(char::from(b"0123456789ABCDEF"[usize::from(value)]));
+    }
 }

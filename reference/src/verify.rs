@@ -1,7 +1,7 @@
 //! The check of a ROM with its level sheet (document 01, "Clearance rules").
 
 use crate::fault::{self, fault};
-use crate::isa::{decode, unsupported, Instruction};
+use crate::isa::{decode, unsupported, Instruction, RETSK};
 use crate::machine::{rom_in_range, LAST_ADDRESS, ROM_WORDS};
 
 /// What the check answers.
@@ -60,7 +60,7 @@ struct Sheet<'a> {
 fn skipped_returns(rom: &[u16], depths: &[u8]) -> u8 {
     rom.iter()
         .zip(depths)
-        .filter(|&(&word, &depth)| reached(depth) && decode(word) == Some(Instruction::Retsk))
+        .filter(|&(&word, &depth)| word == RETSK && reached(depth))
         .fold(0, |levels, (_, depth)| levels | 1 << depth)
 }
 

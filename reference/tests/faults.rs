@@ -5,7 +5,7 @@
 
 use reference::fault::*;
 use reference::Instruction::{self, *};
-use reference::{encode, run, station, step, verify, Input, Machine};
+use reference::{decode, encode, run, station, step, verify, Input, Machine, Station};
 
 const PSW: u8 = Machine::PSW;
 
@@ -82,8 +82,22 @@ fn witness(fault: u32) -> String {
         RELEASE_LOST => changed(|m| m.standby = 1, 1, &[0x7000]),
         WRAP_AT_ROM_END => quiet(&[], Nop),
         CHECK_ODD_ENTRY => format!("{:?}", verify(&rom(&[Br { addr: 0 }, Nop]), &[0, 7])),
-        SHORT_BEFORE_RANGE => format!("{:?}", station::read(&[0, 1, 0, 1, 0, 0, 0, 1, 9])),
+        SHORT_BEFORE_RANGE => {
+            format!("{:?}", station::read(&[0, 1, 0, 2, 0, 0, 0, 0, 0, 2, 9]))
+        }
         R_PAST_PORT => one(ports(5, 0), &[(0x7E, 14)], St { m: 0x10, r: 0 }),
+        GROUP_ANY_ROW => format!("{:?}", decode(word(IncIx) | 0x100)),
+        ENCODER_MASKS => format!("{:?}", encode(Br { addr: 2048 })),
+        CLOSED_NOT_TESTED => changed(|m| m.stack[4] = 9, 0, &[word(Nop)]),
+        COUNTS_BEFORE_ENTRIES => {
+            let inputs = vec![Input::default(); 4096];
+            format!("{:?}", station::write(&Station { rom: vec![0], depths: vec![9], inputs }))
+        }
+        EXCESS_BEFORE_RANGE => {
+            let mut file = vec![0, 1, 0, 1, 0, 0, 0, 0, 0, 1, 16];
+            file.resize(22, 0);
+            format!("{:?}", station::read(&file))
+        }
         _ => unreachable!("fault {fault}"),
     }
 }

@@ -1,8 +1,6 @@
 //! The proved emulator through its C entries (include/pollwezen.h). The only
 //! unsafe code of this package.
 
-#![allow(unsafe_code)]
-
 mod layout;
 mod structs;
 

@@ -90,6 +90,29 @@ fn twenty_three_for_an_entry() {
     }
 }
 
+/// What is wrong further back does not count, however far.
+#[test]
+fn the_first_fault_is_given() {
+    let two = |front: (usize, u8), back: (usize, u8)| {
+        let mut file = changed(back.0, back.1);
+        file[front.0] = front.1;
+        file
+    };
+    assert_eq!(read(&two((1, 2), (3, 0))), Err(20), "form, then count of words");
+    assert_eq!(read(&two((2, 9), (10, 6))), Err(22), "count of words, then entry");
+    assert_eq!(read(&two((9, 1), (10, 6))), Err(22), "count of entries, then entry");
+    assert_eq!(read(&two((10, 6), (12, 0x10))), Err(23), "entry, then count of inputs");
+    assert_eq!(read(&two((12, 0x10), (14, 16))), Err(22), "count of inputs, then pin");
+    for place in 14..36 {
+        let mut file = changed(place, 255);
+        for length in place + 1..36 {
+            assert_eq!(read(&file[..length]), Err(23), "{place} and then cut to {length}");
+        }
+        file.extend([0; 40]);
+        assert_eq!(read(&file), Err(23), "{place} and then too long");
+    }
+}
+
 #[test]
 fn twenty_four_for_more_bytes() {
     let mut file = bytes();

@@ -69,6 +69,24 @@ fn standby_and_skip() {
 
 #[test]
 fn record_numbers_are_decimal() {
-    let all = text(&[Br { addr: 0 }], &[0], &[quiet(); 12]);
-    assert!(all.contains("\n12 000 6000 000 0 0\nEND 12 0\n"));
+    let all = text(&[Br { addr: 0 }], &[0], &[quiet(); 4095]);
+    for record in ["\n9 ", "\n10 ", "\n99 ", "\n100 ", "\n909 ", "\n1000 ", "\n4095 "] {
+        assert_eq!(all.matches(record).count(), 1, "{record:?}");
+    }
+    assert!(all.ends_with("\n4095 000 6000 000 0 0\nEND 4095 0\n"));
+    // 4,095 lines of 18 bytes and a number each, SHEET PASS and END.
+    assert_eq!(all.len(), 4095 * 18 + 9 + 2 * 90 + 3 * 900 + 4 * 3096 + 11 + 11);
+}
+
+/// Hex digits from A on, five levels, and every digit of an address.
+#[test]
+fn digits() {
+    let mut program = vec![Nop; 1024];
+    program[0] = Br { addr: 0x2CF };
+    for level in 0..5 {
+        program[0x2CF + 0x10 * level] = Call { addr: 0x2DF + 0x10 * level as u16 };
+    }
+    program[0x31F] = MovMN { m: 0x7F, n: 0xF };
+    let all = text(&program, &[], &[quiet(); 7]);
+    assert!(all.ends_with("\n6 30F E31F 31F 5 0\n7 31F EFFF 320 5 F\nEND 7 0\n"), "{all}");
 }
