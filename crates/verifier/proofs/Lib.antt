@@ -1,3 +1,4 @@
+pub mod OneReturn
 pub mod Marks
 pub mod Exact
 pub mod Scan

@@ -10,7 +10,6 @@ use lib.Dec.{eqb}
 use lib.ListN.{getD, set, length}
 use lib.Seq.{getD-set-same, getD-set-other}
 use Rattle.memory.specs.Chip.{upd17132}
-use Rattle.flow.specs.declared.Flow.{Flow}
 use Rattle.clearance.specs.Entry.{Entry, shares}
 use Rattle.clearance.specs.Rules.{isReturnSkip, entryAt, flowAt, skipReturnBelow, skipReturns}
 
@@ -37,14 +36,14 @@ module _ (rom depths : List ℕ) where
   unfolding Seen
   none-yet d h = none-marked d
 
-  pub one-more : (w : ℕ) (f : Flow) (e : Entry) (seen more : List Bool) → f ≡ flowAt rom w → e ≡ entryAt depths w
-      → ((d : ℕ) → d < 6 → getD more d false ≡ ((isReturnSkip f && shares upd17132 e d) || getD seen d false))
+  pub one-more : (w : ℕ) (skipping : Bool) (e : Entry) (seen more : List Bool) → skipping ≡ isReturnSkip (flowAt rom w) → e ≡ entryAt depths w
+      → ((d : ℕ) → d < 6 → getD more d false ≡ ((skipping && shares upd17132 e d) || getD seen d false))
       → Seen w seen → Seen (w + 1) more
   unfolding Seen
-  one-more w f e seen more p q m s d h =
+  one-more w skipping e seen more p q m s d h =
       m d h
-      ∙ ap (λ (x : Bool). (isReturnSkip f && shares upd17132 e d) || x) (s d h)
-      ∙ ap (λ (x : Flow). (isReturnSkip x && shares upd17132 e d) || skipReturnBelow upd17132 rom depths w d) p
+      ∙ ap (λ (x : Bool). (skipping && shares upd17132 e d) || x) (s d h)
+      ∙ ap (λ (x : Bool). (x && shares upd17132 e d) || skipReturnBelow upd17132 rom depths w d) p
       ∙ ap (λ (x : Entry). (isReturnSkip (flowAt rom w) && shares upd17132 x d) || skipReturnBelow upd17132 rom depths w d) q
       ∙ ap (λ (x : ℕ). skipReturnBelow upd17132 rom depths x d) (sym (add-one w))
 

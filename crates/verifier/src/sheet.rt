@@ -4,6 +4,7 @@ ghost use mathlib.Core.Bool.{false, _&&_, _||_};
 ghost use Prim.Native.Nat.{ℕ, _≤_, _<_};
 ghost use lib.ListN.{getD, length};
 ghost use Rattle.memory.specs.Chip.{upd17132};
+ghost use Rattle.flow.specs.Flow.{wordFlow};
 ghost use Rattle.clearance.specs.Entry.{reached, covers, shares};
 ghost use Rattle.clearance.specs.Rules.{isReturnSkip, entryAt, flowAt, met, skipReturns};
 use flow::Flow;
@@ -56,29 +57,33 @@ pub fn met(rom: &[u16], depths: &[u8], word: u16, asked: u8) -> bool
     covers(entry_at(depths, word), asked)
 }
 
-fn is_return_skip(flow: Flow) -> bool
-    ensures { λ r. ⌜ r ≡ isReturnSkip flow ⌝ }
+// RETSK's word.
+const RETSK: u16 = 0b00111_001_1110_0000;
+
+// Whether a word returns with a skip. RETSK alone does, and it has one word, so nothing is decoded.
+fn is_return_skip(word: u16) -> bool
+    ensures { λ r. ⌜ r ≡ isReturnSkip (wordFlow word) ⌝ }
 {
-    match flow {
-        Flow::Onward => false,
-        Flow::Skips => false,
-        Flow::Branches(to) => false,
-        Flow::Calls(to) => false,
-        Flow::Returns => false,
-        Flow::ReturnsSkip => true,
-        Flow::ReadsTable => false,
-        Flow::StandsBy => false,
-        Flow::Barred => false,
+    word == RETSK
+}
+
+fn return_skip_at(rom: &[u16], word: u16) -> bool
+    ensures { λ r. ⌜ r ≡ isReturnSkip (flowAt (now (rom .entry)) word) ⌝ }
+{
+    let at = word as usize;
+    if rom.len() <= at {
+        return is_return_skip(0);
     }
+    is_return_skip(rom[at])
 }
 
 // Marks the level of a reached RETSK.
-fn mark(seen: &mut [bool; 6], flow: Flow, entry: u8)
+fn mark(seen: &mut [bool; 6], skipping: bool, entry: u8)
     requires { ⌜ length (now seen) ≡ 6 ⌝ }
     ensures { λ r. ⌜ length (now (seen .exit)) ≡ 6 ⌝ }
-    ensures { λ r. ⌜ ((d : ℕ) → d < 6 → getD (now (seen .exit)) d false ≡ ((isReturnSkip flow && shares upd17132 entry d) || getD (now (seen .entry)) d false)) ⌝ }
+    ensures { λ r. ⌜ ((d : ℕ) → d < 6 → getD (now (seen .exit)) d false ≡ ((skipping && shares upd17132 entry d) || getD (now (seen .entry)) d false)) ⌝ }
 {
-    if !is_return_skip(flow) {
+    if !skipping {
         return;
     }
     if 5 < entry {
@@ -95,7 +100,7 @@ pub fn skip_levels(rom: &[u16], depths: &[u8]) -> [bool; 6]
     let mut seen = [false; 6];
     let mut word: u16 = 0;
     while (word as usize) < rom.len() {
-        mark(&mut seen, flow_at(rom, word), entry_at(depths, word));
+        mark(&mut seen, return_skip_at(rom, word), entry_at(depths, word));
         word += 1;
     }
     seen

@@ -18,8 +18,8 @@ loop-holds c = (search needs, c .before .before .pre, refl, none-yet _ _)
 cast-loop : tie.Need-cast-loop Inv-loop μ-loop
 cast-loop c = search needs
 
-flow-at-requires : tie.Need-flow-at-requires Inv-loop μ-loop
-flow-at-requires c κs = search needs
+return-skip-at-requires : tie.Need-return-skip-at-requires Inv-loop μ-loop
+return-skip-at-requires c κs = search needs
 
 entry-at-requires : tie.Need-entry-at-requires Inv-loop μ-loop
 entry-at-requires c κs = search needs
@@ -39,7 +39,7 @@ loop-again c =
       search needs,
       v .1,
       c .mark .ensures .0,
-      one-more _ _ _ _ _ _ _ (c .before .before .flow-at .ensures) (c .before .entry-at .ensures) (c .mark .ensures .1) (v .3),
+      one-more _ _ _ _ _ _ _ (c .before .before .return-skip-at .ensures) (c .before .entry-at .ensures) (c .mark .ensures .1) (v .3),
     )
 
 returns : tie.Need-returns Inv-loop μ-loop
@@ -53,7 +53,7 @@ skip-levels-spec =
     μ-loop
     loop-holds
     cast-loop
-    flow-at-requires
+    return-skip-at-requires
     entry-at-requires
     mark-requires
     add-word
