@@ -8,7 +8,7 @@ ghost use Rattle.alu.specs.Rows.{rowDifference};
 use isa::AluOp;
 use isa::SkipOp;
 
-// A result of four bits, and CY.
+// A result and CY. The result has four bits, unless it is that of logic on bytes that have more.
 pub struct Outcome {
     pub result: u8,
     pub carry: bool,

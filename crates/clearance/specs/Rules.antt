@@ -133,7 +133,7 @@ abbrev pub whereReached : Chip → Entry → Bool → Bool
 whereReached chip e b = cond (reached chip e) b true
 
 module _ (chip : Chip) (rom depths : List ℕ) where
-  -- the rules by number, 1 to 6
+  -- the rules by number, 1 to 6; nothing asks for another
   unfoldable pub ruleOf : ℕ → Flow → Entry → ℕ → Bool
   ruleOf w f e r =
       getD

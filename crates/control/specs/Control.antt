@@ -38,7 +38,7 @@ marked skip standby c = record { pc = c .pc; stack = c .stack; levels = c .level
 abbrev pub push : ℕ → Control → Control
 push a c = record { pc = c .pc; stack = set (c .stack) (c .levels) a; levels = c .levels + 1; skip = c .skip; standby = c .standby }
 
--- the address on the highest open level
+-- the address on the highest open level; with none open the one on the lowest place, and past the last place 0
 abbrev pub top : Control → ℕ
 top c = getD (c .stack) (c .levels - 1) 0
 

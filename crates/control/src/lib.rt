@@ -50,7 +50,7 @@ pub fn stand(regs: Regs) -> Regs
     }
 }
 
-// BR @AR.
+// BR @AR, and BR once its target is known to be in reach.
 pub fn jump(regs: Regs, to: u16) -> Regs
     ensures { λ r. ⌜ ((stack : List ℕ) → withStack stack r ≡ jump to (withStack stack regs)) ⌝ }
 {
@@ -135,7 +135,7 @@ pub fn push(stack: &mut [u16; 5], regs: Regs, ar: u16) -> Moved
     })
 }
 
-// The address on the highest open level.
+// The address on the highest open level; with none open the one on the lowest place, and past the fifth 0.
 pub fn top(stack: &[u16; 5], regs: Regs) -> u16
     ensures { λ r. ⌜ r ≡ top (withStack (now (stack .entry)) regs) ⌝ }
 {

@@ -1,6 +1,6 @@
 -- The forms that work on a record lent by the host: document 01, "after the by-value core, a thin in-place step on the host's
--- record". They answer what the forms by value answer, and leave in the lent record what those return: unchanged where the
--- step is refused, and after a run its completed steps.
+-- record". They answer what the forms by value answer, and leave in the lent record the record that those return: as it
+-- came where a step is refused, and after a run as its completed steps left it.
 -- Assumes nothing.
 use mathlib.Core.List.{List}
 use Prim.Native.Nat.{ℕ}

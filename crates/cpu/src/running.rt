@@ -20,7 +20,7 @@ use machine::Machine;
 use machine::Refusal;
 use machine::ranges;
 
-// How a run ends whose last step was not completed.
+// How a run ends, by the answer that it stopped with.
 fn end_of(answer: Answer) -> End
     ensures { λ r. ⌜ endOf r ≡ refusalOf (replyOf answer) ⌝ }
 {

@@ -1,6 +1,6 @@
 -- Demand 3 for every form of the step and the run at once: whatever list of calls is made on a passed ROM, of pollwezen_step
--- and pollwezen_run, by value and in place, in any order, from the record that pollwezen_reset gives and each on the record
--- that the one before left.
+-- and pollwezen_run, of the forms by value and of those in place, in any order, from the record that pollwezen_reset gives and
+-- each on the record that the one before left.
 -- Assumes nothing.
 use mathlib.Core.Path.{_≡_}
 use mathlib.Core.Bool.{true, cond}
@@ -50,7 +50,9 @@ module _ (rom depths : List ℕ) where
     pub answered : ownInRange (asCall c) ≡ true → refusalBy rom c r ≡ 0
     pub onlyOne : (refusalBy rom c r ≡ 0) ⊎ (refusalBy rom c r ≡ 1)
 
-  -- as in `Good`: the moment before the first call and after every call, and inside every run
+  -- as in `Good`: the moment before the first call and after every call, and inside every run. The tally and the moments inside
+  -- a run are those of `asCall`. For an entry they are its own by `Follows` (RecordLaws.antt), and by that alone: an entry does
+  -- what the form in place does.
   abbrev pub GoodEntries : Record → Tally → List EntryCall → Type 0
   GoodEntries r t [] = Moment upd17132 rom depths (machineOf r) t
   GoodEntries r t (c ∷ cs) =

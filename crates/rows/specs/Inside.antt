@@ -22,7 +22,7 @@ opcodeRow op = rowIn (entryOf op 0 0 0)
 unfoldable pub groupRow : ℕ → ℕ
 groupRow m = rowIn (groupOf m 0)
 
--- the row of a word, as far as its low nibble does not matter
+-- the row of a word, its low nibble left out of account: `stray` tests it
 unfoldable pub wordRow : ℕ → ℕ
 wordRow w = cond (eqb (w / 2048) 7) (groupRow (w / 16 % 128)) (opcodeRow (w / 2048))
 

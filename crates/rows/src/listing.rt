@@ -121,7 +121,7 @@ fn unlisted() -> Listed
     }
 }
 
-// The row of a word whose low nibble its row takes; 47 for none.
+// The row of a word, its low nibble left out of account: `is_stray` tests it. 47 for none.
 fn row_of(word: u16) -> u8
     ensures { λ r. ⌜ r ≡ wordRow word ⌝ }
 {

@@ -13,7 +13,7 @@ use Rattle.station_file.specs.Station.{Form, Station, recordBytes, parse
 abbrev pub overlay : List ℕ → List ℕ → List ℕ
 overlay xs buffer = xs ++ drop (length xs) buffer
 
--- the lent buffers, and how much each takes
+-- the lent buffers
 pub record Buffers : Type 0 where
   pub rom : List ℕ
   pub sheet : List ℕ
