@@ -19,10 +19,29 @@ extern "C" {
  * a refused step leaves it as it came, so its port nibbles are old, and a refused run has stopped where it was. Take the lamps
  * away then, and do not draw them from that record again. */
 
-/* Numbers that are no refusal. Every other number is one of document 01. */
-#define POLLWEZEN_DONE 0      /* a completed step, a run without a refusal, a sheet that passes, what was read or written */
+/* Numbers that are no refusal. */
+#define POLLWEZEN_DONE 0      /* a completed step, a run without a refusal, a sheet that passes, a word decoded or encoded, what
+                                 was read or written, a text */
 #define POLLWEZEN_FAIL 254    /* a sheet that fails */
-#define POLLWEZEN_STANDBY 255 /* the machine stays in standby */
+#define POLLWEZEN_STANDBY 255 /* the machine stays in standby (a step only) */
+
+/* Every other number is a refusal of document 01:
+ *    1  record, mark or input out of range, ROM not 1 to 1,024 words, budget too large, row past the list
+ *    2  PC at or past the number of ROM words
+ *    3  the word is no instruction
+ *    4  EI, DI, RETI, PEEK, POKE, GET or PUT
+ *    5  BR or CALL to 1,024 or more
+ *    6  stack full
+ *    7  stack empty
+ *    8  MOVT past the ROM
+ *    9  the sheet has not the ROM's length
+ *   10  an operand too large for its field, or one that the row does not have
+ *   20  form number of a file other than 1
+ *   21  the file ends too early
+ *   22  a count that is not allowed
+ *   23  an entry or input out of range
+ *   24  bytes after the end
+ *   25  the lent buffer is too short */
 
 /* The most that a station file has, and what its text never exceeds. Buffers of these sizes are never too short. */
 #define POLLWEZEN_WORDS 1024        /* ROM words, and sheet entries */
@@ -105,14 +124,15 @@ pollwezen_record pollwezen_reset(void);
 /* One step on the lent record. A refusal leaves it as it came. */
 uint8_t pollwezen_step(const uint16_t *rom, size_t words, pollwezen_record *lent, pollwezen_input input);
 
-/* A counted run on the lent record, of 0 to 65,535 steps. */
+/* A counted run on the lent record, of 0 to 65,535 steps. It ends at a refusal, in standby or at the budget. A refused run
+ * keeps the state of its completed steps. */
 pollwezen_report pollwezen_run(const uint16_t *rom, size_t words, pollwezen_record *lent, pollwezen_input input,
                                uint32_t budget);
 
-/* The check of a ROM and its sheet, one level a word. */
+/* The check of a ROM and its sheet, one level a word. Refusals: 1 for the ROM's length, 9 for the sheet's. */
 pollwezen_checked pollwezen_verify(const uint16_t *rom, size_t words, const uint8_t *depths, size_t entries);
 
-/* The instruction that a word is. */
+/* The instruction that a word is. Refusal: 3. */
 pollwezen_listed pollwezen_decode(uint16_t word);
 
 /* The word of an instruction. Refusals: 1 for a row past the list, 10 for an operand that is too large for its field or that
@@ -129,7 +149,8 @@ pollwezen_output pollwezen_write(const uint16_t *rom, size_t words, const uint8_
                                  const uint8_t *inputs, size_t input_bytes, uint8_t *out, size_t room);
 
 /* Puts what the program `station` prints for a file to the front of the lent buffer, with no closing 0. A bad file has a text
- * too, so the one refusal is 25, and then nothing is written. */
+ * too, so the one refusal is 25, and then nothing is written. A buffer of POLLWEZEN_TEXT_BYTES, 100,000, is enough for every
+ * text, and quickest: before it is put into a shorter one the text is measured. */
 pollwezen_output pollwezen_transcript(const uint8_t *file, size_t bytes, uint8_t *out, size_t room);
 
 #ifdef __cplusplus
