@@ -29,8 +29,11 @@ controlInRange chip c =
 unfoldable pub machineInRange : Chip → Machine → Bool
 machineInRange chip m = cellsInRange chip (cellsOf m) && controlInRange chip (m .control)
 
+abbrev pub isNibble : List ℕ → ℕ → Bool
+isNibble xs k = ltb (getD xs k 0) 16
+
 abbrev pub nibbles : List ℕ → Bool
-nibbles xs = every (λ (k : ℕ). ltb (getD xs k 0) 16) 5
+nibbles xs = every (isNibble xs) 5
 
 -- five pins, five directions and a release bit
 unfoldable pub inputInRange : Input → Bool

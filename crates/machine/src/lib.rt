@@ -1,4 +1,5 @@
 // The machine's record and the input record: what they hold, what is in range, and reset; and why a step is refused.
+pub mod cells;
 pub mod ranges;
 
 ghost use mathlib.Core.Path.{_≡_};

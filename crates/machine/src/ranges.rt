@@ -7,6 +7,7 @@ ghost use Rattle.machine.specs.Ranges.{nibbles, controlInRange, machineI
 use crate::Control;
 use crate::Input;
 use crate::Machine;
+use crate::cells;
 
 // Five nibbles.
 fn nibbles(xs: [u8; 5]) -> bool
@@ -68,7 +69,7 @@ fn machine(m: Machine) -> bool
 {
     let memory = m.memory;
     let cells = memory.cells;
-    if !memory::in_range(&cells) {
+    if !cells::in_range(&cells) {
         return false;
     }
     control(m.control)

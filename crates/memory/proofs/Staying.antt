@@ -1,14 +1,14 @@
 -- Which bits stay: all of a nibble, but at seven cells.
 -- Assumes nothing.
-use mathlib.Core.Path.{_≡_, _∙_, refl, subst, sym}
+use mathlib.Core.Path.{_≡_, _∙_, subst}
 use mathlib.Core.Bool.{Bool, false, _||_}
-use Prim.Native.Nat.{ℕ, _%_, _<_, _≤_}
+use Prim.Native.Nat.{ℕ, _%_, _<_}
 use native.Mathlib.Omega.{arith}
-use borrow.Author.Tests.{ne-eqb}
-use lib.Bits.{and-mask}
-use lib.Dec.{T, eqb, eqb→eq}
+use borrow.Author.Tests.{ne-eqb, ltb-true}
+use lib.Bits.{and-mask, and-le-r}
+use lib.Dec.{T, eqb, eqb→eq, ltb}
 use lib.ListN.{getD}
-use Rattle.laws.proofs.Every.{every-at}
+use Rattle.laws.proofs.Every.{every-at, holds}
 use Rattle.memory.specs.Chip.{upd17132, masks17132}
 use Rattle.memory.specs.Names.{P0E, AR3, AR2, BANK, IXH, IXM, RPH}
 use Rattle.memory.specs.Write.{keptOf}
@@ -28,17 +28,18 @@ whole k h ar3 bank rph ar2 ixh ixm p0e =
     (or-right _ _ (ne-eqb k AR2 ar2) (or-right _ _ (ne-eqb k RPH rph) (or-right _ _ (ne-eqb k BANK bank)
     (or-right _ _ (ne-eqb k AR3 ar3) (every-at listed 128 tt k h))))))))
 
--- below the ports: the low four bits
-pub kept-below : (k v : ℕ) → k < P0E → keptOf upd17132 k v ≡ v % 16
+narrow : ℕ → Bool
+narrow k = ltb (getD masks17132 k 0) 16
+
+-- nothing above a nibble stays
+pub kept-nibble : (k v : ℕ) → k < 128 → keptOf upd17132 k v ≡ v → v < 16
+unfolding keptOf narrow masks17132
+kept-nibble k v h e =
+    let mask = getD masks17132 k 0 in
+    let small : mask < 16 = ltb-true mask 16 (holds (every-at narrow 128 tt k h)) in
+    omega (arith, e, and-le-r v mask, small)
+
+-- where all of a nibble stays, a nibble does
+pub nibble-kept : (k v : ℕ) → getD masks17132 k 0 ≡ 0b1111 → v < 16 → keptOf upd17132 k v ≡ v
 unfolding keptOf
-kept-below k v h =
-    rw (whole k (omega arith) (λ e. omega arith) (λ e. omega arith) (λ e. omega arith) (λ e. omega arith) (λ e. omega arith)
-    (λ e. omega arith) (λ e. omega arith))
-    (and-mask v 4)
-
--- so a nibble stays there, and nothing above
-pub nibble-stays : (k v : ℕ) → k < P0E → v ≤ 15 → keptOf upd17132 k v ≡ v
-nibble-stays k v h l = let e : v % 16 ≡ v = omega arith in kept-below k v h ∙ e
-
-pub above-goes : (k v : ℕ) → k < P0E → 15 < v → keptOf upd17132 k v ≡ v → ⊥
-above-goes k v h l e = let same = sym (kept-below k v h) ∙ e in omega arith
+nibble-kept k v e h = let low : v % 16 ≡ v = omega arith in rw e (and-mask v 4 ∙ low)

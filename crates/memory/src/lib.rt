@@ -2,7 +2,6 @@
 mod cells;
 mod counters;
 mod masks;
-mod range;
 
 pub use cells::is_set;
 pub use cells::read;
@@ -10,7 +9,7 @@ pub use cells::store;
 pub use cells::with_flag;
 pub use cells::write;
 pub use counters::next;
-pub use range::in_range;
+pub use masks::mask;
 ghost use mathlib.Core.Path.{_≡_};
 ghost use Rattle.memory.specs.Range.{resetMemory};
 

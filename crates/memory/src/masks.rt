@@ -4,7 +4,8 @@ ghost use lib.ListN.{getD};
 ghost use Rattle.memory.specs.Chip.{upd17132};
 use crate::Memory;
 
-// The bits that stay at an address, in document 01's order of the cells that have others. Past 7FH there is no cell.
+// The bits that stay at an address: all of a nibble, but at seven cells, which come in document 01's order. Past 7FH there is
+// no cell.
 pub fn mask(at: u8) -> u8
     ensures { λ r. ⌜ r ≡ getD (upd17132 .masks) at 0 ⌝ }
 {

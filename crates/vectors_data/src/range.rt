@@ -7,7 +7,7 @@ use crate::setup::written_cells;
 fn takes(at: u8, v: u8) -> u8 {
     let mut cells = reset_cells();
     cells[(at % 128) as usize] = v;
-    memory::in_range(&cells) as u8
+    machine::cells::in_range(&cells) as u8
 }
 
 // Each bit of a nibble, and a nibble of 16.
@@ -51,8 +51,8 @@ pub fn show_all() {
     fill(
         b"reset cells: in range _\ncells written with F: in range _\n",
         &[
-            memory::in_range(&reset) as u8,
-            memory::in_range(&written) as u8,
+            machine::cells::in_range(&reset) as u8,
+            machine::cells::in_range(&written) as u8,
         ],
     );
     show_whole();

@@ -1,0 +1,66 @@
+// Which cells are in range.
+ghost use mathlib.Core.Path.{_≡_};
+ghost use mathlib.Core.Bool.{_&&_};
+ghost use Prim.Native.Nat.{_<_};
+ghost use Rattle.laws.specs.Every.{every};
+ghost use Rattle.memory.specs.Chip.{upd17132};
+ghost use Rattle.memory.specs.Names.{P0E, AR3, AR2, BANK, IXH, IXM, RPH};
+ghost use Rattle.memory.specs.Range.{cellInRange, cellsInRange};
+ghost use Rattle.machine.specs.Ranges.{isNibble};
+use memory::Memory;
+
+// Whether every cell holds a nibble. It counts and does not stop early, so that it can be vectorised.
+fn all_nibbles(cells: &[u8; 128]) -> bool
+    ensures { λ r. ⌜ r ≡ every (isNibble (now (cells .entry))) 128 ⌝ }
+{
+    let mut failures: u8 = 0;
+    for i in 0..128usize {
+        if 15 < cells[i] {
+            failures += 1;
+        }
+    }
+    failures == 0
+}
+
+// Whether a cell holds only bits that stay.
+fn stays(cells: &[u8; 128], at: u8) -> bool
+    requires { ⌜ at < 128 ⌝ }
+    ensures { λ r. ⌜ r ≡ cellInRange upd17132 (now (cells .entry)) at ⌝ }
+{
+    let v = cells[at as usize];
+    v & memory::mask(at) == v
+}
+
+// The seven cells where not every bit of a nibble stays.
+fn fixed_bits(cells: &[u8; 128]) -> bool
+    ensures { λ r. ⌜ r ≡ (cellInRange upd17132 (now (cells .entry)) AR3 && (cellInRange upd17132 (now (cells .entry)) BANK && (cellInRange upd17132 (now (cells .entry)) RPH && (cellInRange upd17132 (now (cells .entry)) AR2 && (cellInRange upd17132 (now (cells .entry)) IXH && (cellInRange upd17132 (now (cells .entry)) IXM && cellInRange upd17132 (now (cells .entry)) P0E)))))) ⌝ }
+{
+    if !stays(cells, Memory::AR3) {
+        return false;
+    }
+    if !stays(cells, Memory::BANK) {
+        return false;
+    }
+    if !stays(cells, Memory::RPH) {
+        return false;
+    }
+    if !stays(cells, Memory::AR2) {
+        return false;
+    }
+    if !stays(cells, Memory::IXH) {
+        return false;
+    }
+    if !stays(cells, Memory::IXM) {
+        return false;
+    }
+    stays(cells, Memory::P0E)
+}
+
+pub fn in_range(cells: &[u8; 128]) -> bool
+    ensures { λ r. ⌜ r ≡ cellsInRange upd17132 (now (cells .entry)) ⌝ }
+{
+    if !all_nibbles(cells) {
+        return false;
+    }
+    fixed_bits(cells)
+}
