@@ -1,10 +1,8 @@
 // Runs the step and the counted run over the examples of a script: document 01's lines beyond its cases, the errors
 // that look right, the refusals, where a run ends, and the manuals' programs. The script is standard input, the file
 // stdin.
-mod assemble;
 mod bench;
 mod compare;
-mod names;
 mod print;
 mod report;
 mod scan;

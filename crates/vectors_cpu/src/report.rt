@@ -56,7 +56,7 @@ pub fn step(b: Bench) -> Bench {
     let answer = stepped.answer;
     let after = stepped.machine;
     show_answer(answer);
-    moved(b, before, after)
+    moved(b, after, same(before, after))
 }
 
 // A run: its steps, a refusal, and where it ended.
@@ -72,7 +72,7 @@ pub fn run(b: Bench, budget: u32) -> Bench {
     decimal(report.steps as u64);
     say(b" steps");
     show_end(end);
-    let next = moved(b, before, after);
+    let next = moved(b, after, same(before, after));
     show_place(next);
     next
 }
@@ -117,7 +117,7 @@ fn show_level(to: u16) {
 // Whether the record is what it was before the last step or run.
 pub fn show_unchanged(b: Bench) {
     say(b", record unchanged ");
-    flag(same(b.before, machine(b)));
+    flag(b.unchanged);
 }
 
 fn show_digits(cells: &[u8; 128], first: u8, last: u8) {
