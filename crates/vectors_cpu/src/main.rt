@@ -9,7 +9,7 @@ mod scan;
 mod script;
 
 use bench::cleared;
-use print::line;
+use print::letter;
 use script::perform;
 
 // Whether a line begins at a place.
@@ -30,7 +30,7 @@ fn run_script(text: &[u8]) {
             b = perform(text, at, b);
         }
     }
-    line();
+    letter(b'\n');
 }
 
 fn main() {

@@ -26,7 +26,7 @@ use crate::bench::with_level;
 use crate::bench::with_pin;
 use crate::bench::with_raw;
 use crate::bench::with_word;
-use crate::print::line;
+use crate::print::letter;
 use crate::print::say;
 use crate::report::run;
 use crate::report::show_cells;
@@ -78,7 +78,7 @@ fn say_rest(text: &[u8], from: usize) {
 // example.
 fn begin(text: &[u8], from: usize, b: Bench) -> Bench {
     if b.begun {
-        line();
+        letter(b'\n');
     }
     say_rest(text, from);
     let mut next = cleared();
