@@ -1,6 +1,4 @@
 // The bench: a ROM, a machine's record in its parts, and the inputs.
-use crate::assemble::encoded;
-use isa::Instruction;
 use machine::Control;
 use machine::Input;
 use machine::Machine;
@@ -22,18 +20,20 @@ pub struct Bench {
     pub pins: [u8; 5],
     pub directions: [u8; 5],
     pub release: u8,
-    // The record before the last step or run.
-    pub before: Machine,
+    // Whether the last step or run left the record as it was.
+    pub unchanged: bool,
     // Whether a line has been begun.
     pub begun: bool,
 }
 
+// The word HALT 0.
+const HALT: u16 = 0x3BF0;
+
 // A reset machine, ports that read as memory, and 64 words of HALT, so that a run ends behind a program's last word and
 // at a label where nothing stands.
 pub fn cleared() -> Bench {
-    let halt = encoded(Instruction::Halt(0));
     Bench {
-        words: [halt; 1025],
+        words: [HALT; 1025],
         count: 64,
         at: 0,
         cells: [0; 128],
@@ -45,7 +45,7 @@ pub fn cleared() -> Bench {
         pins: [0; 5],
         directions: [0b1111; 5],
         release: 0,
-        before: Machine::reset(),
+        unchanged: true,
         begun: false,
     }
 }
@@ -86,7 +86,7 @@ pub fn input(b: Bench) -> Input {
 }
 
 // A bench whose machine has gone on.
-pub fn moved(mut b: Bench, before: Machine, after: Machine) -> Bench {
+pub fn moved(mut b: Bench, after: Machine, unchanged: bool) -> Bench {
     let memory = after.memory;
     let control = after.control;
     let cells = memory.cells;
@@ -97,7 +97,7 @@ pub fn moved(mut b: Bench, before: Machine, after: Machine) -> Bench {
     b.levels = control.levels;
     b.skip = control.skip;
     b.standby = control.standby;
-    b.before = before;
+    b.unchanged = unchanged;
     b
 }
 

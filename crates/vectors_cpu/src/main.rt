@@ -1,17 +1,15 @@
 // Runs the step and the counted run over the examples of a script: document 01's lines beyond its cases, the errors
 // that look right, the refusals, where a run ends, and the manuals' programs. The script is standard input, the file
 // stdin.
-mod assemble;
 mod bench;
 mod compare;
-mod names;
 mod print;
 mod report;
 mod scan;
 mod script;
 
 use bench::cleared;
-use print::line;
+use print::letter;
 use script::perform;
 
 // Whether a line begins at a place.
@@ -32,7 +30,7 @@ fn run_script(text: &[u8]) {
             b = perform(text, at, b);
         }
     }
-    line();
+    letter(b'\n');
 }
 
 fn main() {

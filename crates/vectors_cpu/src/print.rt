@@ -3,13 +3,16 @@ pub fn say(text: &[u8]) {
     io::write_all(1, text);
 }
 
+pub fn letter(c: u8) {
+    say(&[c]);
+}
+
 // One digit; two where it is no nibble.
 pub fn nibble(n: u8) {
     if 15 < n {
         byte(n);
     } else {
-        let digit = [text::hex_digit(n)];
-        say(&digit);
+        letter(text::hex_digit(n));
     }
 }
 
@@ -20,9 +23,9 @@ pub fn byte(n: u8) {
 
 pub fn flag(on: bool) {
     if on {
-        say(b"1");
+        letter(b'1');
     } else {
-        say(b"0");
+        letter(b'0');
     }
 }
 
@@ -34,8 +37,4 @@ pub fn decimal(n: u64) {
 pub fn address(n: u16) {
     let all = text::hex4(n);
     say(&all[1..]);
-}
-
-pub fn line() {
-    say(b"\n");
 }

@@ -8,6 +8,7 @@ use crate::print::address;
 use crate::print::byte;
 use crate::print::decimal;
 use crate::print::flag;
+use crate::print::letter;
 use crate::print::nibble;
 use crate::print::say;
 use cpu::Answer;
@@ -56,7 +57,7 @@ pub fn step(b: Bench) -> Bench {
     let answer = stepped.answer;
     let after = stepped.machine;
     show_answer(answer);
-    moved(b, before, after)
+    moved(b, after, same(before, after))
 }
 
 // A run: its steps, a refusal, and where it ended.
@@ -72,7 +73,7 @@ pub fn run(b: Bench, budget: u32) -> Bench {
     decimal(report.steps as u64);
     say(b" steps");
     show_end(end);
-    let next = moved(b, before, after);
+    let next = moved(b, after, same(before, after));
     show_place(next);
     next
 }
@@ -88,11 +89,14 @@ pub fn show_place(b: Bench) {
     }
 }
 
+fn show_flag(name: &[u8], on: bool) {
+    say(name);
+    flag(on);
+}
+
 pub fn show_marks(b: Bench) {
-    say(b", skip ");
-    flag(b.skip);
-    say(b" standing ");
-    flag(b.standby);
+    show_flag(b", skip ", b.skip);
+    show_flag(b" standing ", b.standby);
 }
 
 // How many levels are open, and the stack from its first.
@@ -110,14 +114,13 @@ fn show_levels(stack: [u16; 5]) {
 }
 
 fn show_level(to: u16) {
-    say(b" ");
+    letter(b' ');
     address(to);
 }
 
 // Whether the record is what it was before the last step or run.
 pub fn show_unchanged(b: Bench) {
-    say(b", record unchanged ");
-    flag(same(b.before, machine(b)));
+    show_flag(b", record unchanged ", b.unchanged);
 }
 
 fn show_digits(cells: &[u8; 128], first: u8, last: u8) {
@@ -132,18 +135,16 @@ pub fn show_cells(b: Bench, first: u8, last: u8) {
     say(b", ");
     byte(first);
     if first < last {
-        say(b"-");
+        letter(b'-');
         byte(last);
     }
-    say(b" ");
+    letter(b' ');
     let cells = b.cells;
     show_digits(&cells, first, last);
 }
 
 pub fn show_flags(b: Bench) {
     let cells = b.cells;
-    say(b", CY ");
-    flag(memory::is_set(&cells, Memory::PSW, Memory::CY));
-    say(b" Z ");
-    flag(memory::is_set(&cells, Memory::PSW, Memory::Z));
+    show_flag(b", CY ", memory::is_set(&cells, Memory::PSW, Memory::CY));
+    show_flag(b" Z ", memory::is_set(&cells, Memory::PSW, Memory::Z));
 }

@@ -1,26 +1,17 @@
-// The words of a line. A blank or a comma stands between two, and a semicolon begins a comment.
+// The words of a line. A blank stands between two, and a semicolon begins a comment.
 ghost use Prim.Native.Nat.{_<_};
 
-// A word: its letters as a number, 0 where the line has ended; the mark before it; its hexadecimal digits as a number;
-// and the place behind it.
+// A word: its letters as a number, 0 where the line has ended; its hexadecimal digits as a number; and the place behind
+// it.
 pub struct Word {
     pub name: u64,
-    pub mark: u8,
     pub value: u32,
     pub next: usize,
 }
 
-// A blank or a comma.
-fn is_blank(c: u8) -> bool {
-    if c == b' ' {
-        return true;
-    }
-    c == b','
-}
-
 // What ends a word.
 pub fn is_end(c: u8) -> bool {
-    if is_blank(c) {
+    if c == b' ' {
         return true;
     }
     if c == b';' {
@@ -29,18 +20,10 @@ pub fn is_end(c: u8) -> bool {
     c == b'\n'
 }
 
-// The mark of an immediate or of an indirect operand.
-fn is_mark(c: u8) -> bool {
-    if c == b'#' {
-        return true;
-    }
-    c == b'@'
-}
-
 pub fn skip_blanks(text: &[u8], from: usize) -> usize {
     let mut i = from;
     while i < text.len() {
-        if !is_blank(text[i]) {
+        if text[i] != b' ' {
             return i;
         }
         i += 1;
@@ -64,11 +47,11 @@ fn longer(name: u64, c: u8) -> u64 {
     name % 0x100_0000_0000_0000 * 256 + c as u64
 }
 
-// The word that begins at a place, without a mark.
-fn plain(text: &[u8], from: usize) -> Word {
+// The next word from a place on.
+pub fn scan(text: &[u8], from: usize) -> Word {
     let mut name: u64 = 0;
     let mut value: u32 = 0;
-    let mut i = from;
+    let mut i = skip_blanks(text, from);
     while i < text.len() {
         if is_end(text[i]) {
             break;
@@ -79,27 +62,20 @@ fn plain(text: &[u8], from: usize) -> Word {
     }
     Word {
         name: name,
-        mark: b' ',
         value: value,
         next: i,
     }
 }
 
-// The next word from a place on.
-pub fn scan(text: &[u8], from: usize) -> Word {
-    let start = skip_blanks(text, from);
-    if text.len() <= start {
-        return plain(text, start);
+// A name's number in a list of 23, and 23 where it is not there.
+pub fn find(names: &[u8], name: u64) -> u16 {
+    let mut from = 0;
+    for k in 0..23u16 {
+        let word = scan(names, from);
+        if word.name == name {
+            return k;
+        }
+        from = word.next;
     }
-    let mark = text[start];
-    if !is_mark(mark) {
-        return plain(text, start);
-    }
-    let word = plain(text, start + 1);
-    Word {
-        name: word.name,
-        mark: mark,
-        value: word.value,
-        next: word.next,
-    }
+    23
 }

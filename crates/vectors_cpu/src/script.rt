@@ -1,5 +1,5 @@
-// The lines of a script: instructions in the manual's assembler, which go into the ROM one after the other, and
-// directives:
+// The lines of a script. Numbers are hexadecimal. A line that begins with one puts this word into the ROM, behind the one
+// before; the others are directives:
 //
 //     example TEXT       begins a line of output, on a cleared bench
 //     also TEXT          goes on with the line: the same ROM, all else cleared
@@ -12,16 +12,11 @@
 //     pin k v            the pin nibble of port k, 0 for P0A; direction k v: its direction nibble
 //     release v          the release bit
 //     words n            how many words the ROM has
-//     ORG a, DW w        where the next word goes; a word
+//     ORG a              where the next word goes
 //     step               one step, and its answer
 //     run n              a run, of 65,535 steps where no n is given
 //     cells m m          prints cells; flags: CY and Z; place: the PC; marks; opened: the stack
 //     unchanged          prints whether the record is as it was before the step or run
-use crate::assemble::MNEMONICS;
-use crate::assemble::cell;
-use crate::assemble::mnemonic;
-use crate::assemble::whole;
-use crate::assemble::word;
 use crate::bench::Bench;
 use crate::bench::cleared;
 use crate::bench::renewed;
@@ -31,9 +26,7 @@ use crate::bench::with_level;
 use crate::bench::with_pin;
 use crate::bench::with_raw;
 use crate::bench::with_word;
-use crate::names::find;
-use crate::names::operand;
-use crate::print::line;
+use crate::print::letter;
 use crate::print::say;
 use crate::report::run;
 use crate::report::show_cells;
@@ -45,6 +38,7 @@ use crate::report::show_unchanged;
 use crate::report::step;
 use crate::scan::Word;
 use crate::scan::digit;
+use crate::scan::find;
 use crate::scan::is_end;
 use crate::scan::scan;
 use crate::scan::skip_blanks;
@@ -52,9 +46,18 @@ use crate::scan::skip_blanks;
 // A directive's number: those with a text, those that set the bench up, step and run, and those that print.
 fn directive(name: u64) -> u16 {
     find(
-        b"example also then cell raw words pc levels stack skip standing pin direction release ORG DW step run cells flags place marks opened unchanged",
+        b"example also then cell raw words pc levels stack skip standing pin direction release ORG step run cells flags place marks opened unchanged",
         name,
     )
+}
+
+// A number as an address or a nibble, and as a word.
+fn cell(a: Word) -> u8 {
+    (a.value % 256) as u8
+}
+
+fn whole(a: Word) -> u16 {
+    (a.value % 65536) as u16
 }
 
 // The rest of a line.
@@ -75,26 +78,18 @@ fn say_rest(text: &[u8], from: usize) {
 // example.
 fn begin(text: &[u8], from: usize, b: Bench) -> Bench {
     if b.begun {
-        line();
+        letter(b'\n');
     }
-    say_rest(text, skip_blanks(text, from));
+    say_rest(text, from);
     let mut next = cleared();
     next.begun = true;
     next
 }
 
-// also.
-fn again(text: &[u8], from: usize, b: Bench) -> Bench {
+// also and then.
+fn go_on(text: &[u8], from: usize) {
     say(b"; ");
-    say_rest(text, skip_blanks(text, from));
-    renewed(b)
-}
-
-// then.
-fn go_on(text: &[u8], from: usize, b: Bench) -> Bench {
-    say(b"; ");
-    say_rest(text, skip_blanks(text, from));
-    b
+    say_rest(text, from);
 }
 
 // A digit to each cell from an address on.
@@ -115,7 +110,7 @@ fn put_digits(text: &[u8], from: usize, first: u8, b: Bench) -> Bench {
 
 // cell.
 fn put_cells(text: &[u8], from: usize, b: Bench) -> Bench {
-    let first = operand(text, from);
+    let first = scan(text, from);
     put_digits(text, skip_blanks(text, first.next), cell(first), b)
 }
 
@@ -150,11 +145,10 @@ fn set_up(k: u16, x: Word, y: Word, mut b: Bench) -> Bench {
             b.release = cell(x);
             b
         }
-        14 => {
+        _ => {
             b.at = whole(x);
             b
         }
-        _ => with_word(b, whole(x)),
     }
 }
 
@@ -166,36 +160,39 @@ fn run_for(x: Word, b: Bench) -> Bench {
     run(b, x.value)
 }
 
-// Those that print, and a question mark for a name that no list has.
+// Those that print.
 fn show(k: u16, x: Word, y: Word, b: Bench) {
     match k {
-        18 => show_cells(b, cell(x), cell(y)),
-        19 => show_flags(b),
-        20 => show_place(b),
-        21 => show_marks(b),
-        22 => show_stack(b),
-        23 => show_unchanged(b),
-        _ => say(b" ? "),
+        17 => show_cells(b, cell(x), cell(y)),
+        18 => show_flags(b),
+        19 => show_place(b),
+        20 => show_marks(b),
+        21 => show_stack(b),
+        _ => show_unchanged(b),
     }
 }
 
 // A directive with its operands.
-fn direct(k: u16, text: &[u8], from: usize, b: Bench) -> Bench {
-    let x = operand(text, from);
-    let y = operand(text, x.next);
+fn operands(k: u16, text: &[u8], from: usize, b: Bench) -> Bench {
+    let x = scan(text, from);
+    let y = scan(text, x.next);
     match k {
-        0 => begin(text, from, b),
-        1 => again(text, from, b),
-        2 => go_on(text, from, b),
-        3 => put_cells(text, from, b),
-        4..=15 => set_up(k, x, y, b),
-        16 => step(b),
-        17 => run_for(x, b),
+        4..=14 => set_up(k, x, y, b),
+        16 => run_for(x, b),
         _ => {
             show(k, x, y, b);
             b
         }
     }
+}
+
+// A line that is no directive: a word, or a name that no list has.
+fn put_word(first: Word, b: Bench) -> Bench {
+    if b'a' as u64 <= first.name % 256 {
+        say(b" ? ");
+        return b;
+    }
+    with_word(b, whole(first))
 }
 
 // The line that begins at a place.
@@ -204,11 +201,21 @@ pub fn perform(text: &[u8], at: usize, b: Bench) -> Bench {
     if first.name == 0 {
         return b;
     }
-    let k = mnemonic(first.name);
-    if MNEMONICS <= k {
-        return direct(directive(first.name), text, first.next, b);
+    let from = skip_blanks(text, first.next);
+    let k = directive(first.name);
+    match k {
+        0 => begin(text, from, b),
+        1 => {
+            go_on(text, from);
+            renewed(b)
+        }
+        2 => {
+            go_on(text, from);
+            b
+        }
+        3 => put_cells(text, from, b),
+        15 => step(b),
+        23 => put_word(first, b),
+        _ => operands(k, text, from, b),
     }
-    let x = operand(text, first.next);
-    let y = operand(text, x.next);
-    with_word(b, word(k, x, y))
 }

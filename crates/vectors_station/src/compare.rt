@@ -1,4 +1,5 @@
 // What a lent buffer holds.
+use crate::bench::WORDS;
 
 // What every lent buffer is filled with before a call. No sheet and no input has this byte.
 pub const MARK: u8 = 0xA5;
@@ -51,21 +52,11 @@ pub fn holds_words(buffer: &[u16], wanted: &[u8]) -> bool {
     true
 }
 
-fn put_word(words: &mut [u16], at: usize, word: u16) {
-    if at < words.len() {
-        words[at] = word;
-    }
-}
-
-fn put_words(words: &mut [u16], bytes: &[u8]) {
-    for at in 0..1026usize {
-        put_word(words, at, word_at(bytes, at));
-    }
-}
-
 // The words of bytes.
-pub fn words_of(bytes: &[u8]) -> [u16; 1026] {
-    let mut words = [0; 1026];
-    put_words(&mut words, bytes);
+pub fn words_of(bytes: &[u8]) -> [u16; WORDS] {
+    let mut words = [0; WORDS];
+    for at in 0..WORDS {
+        words[at] = word_at(bytes, at);
+    }
     words
 }

@@ -12,7 +12,7 @@ mod writing;
 
 use bench::Bench;
 use bench::cleared;
-use print::line;
+use print::letter;
 use script::perform;
 
 // Whether a line begins at a place.
@@ -40,7 +40,7 @@ fn run_script(text: &[u8]) {
     for at in 0..text.len() {
         b = perform_at(text, at, &mut bytes, b);
     }
-    line();
+    letter(b'\n');
 }
 
 fn main() {

@@ -46,17 +46,21 @@ pub fn read(file: &[u8], b: Bench) -> Outcome {
     let mut rom = [WORD_MARK; WORDS];
     let mut sheet = [MARK; WORDS];
     let mut inputs = [MARK; INPUTS];
-    let none = part(file, 0, 0);
-    match read_to(file, &mut rom, &mut sheet, &mut inputs, b) {
+    let loaded = read_to(file, &mut rom, &mut sheet, &mut inputs, b);
+    judged(loaded, file, &rom, &sheet, &inputs)
+}
+
+fn judged(loaded: Loaded, file: &[u8], rom: &[u16], sheet: &[u8], inputs: &[u8]) -> Outcome {
+    match loaded {
         Loaded::Refused(fault) => refused(
             numbers::of_fault(fault),
-            hold(&rom, &sheet, &inputs, none, none, none),
+            hold(file, rom, sheet, inputs, 0, 0, 0),
         ),
         Loaded::Station {
             words,
             entries,
             records,
-        } => station(file, &rom, &sheet, &inputs, words, entries, records),
+        } => station(file, rom, sheet, inputs, words, entries, records),
     }
 }
 
@@ -86,68 +90,46 @@ fn station(
         words: words,
         entries: entries,
         records: records,
-        right: filled(rom, sheet, inputs, file, words, entries, records),
+        right: filled(file, rom, sheet, inputs, words, entries, records),
         whole: write_same(w, e, i, BYTES, file),
         short: write_same(w, e, i, before(file.len()), file),
     }
 }
 
-// Whether the buffers hold these words, entries and records, all given as bytes, and nothing was written past them.
+// Whether the buffers hold so many words, entries and records of a file, and nothing was written past them.
 fn hold(
-    rom: &[u16],
-    sheet: &[u8],
-    inputs: &[u8],
-    words: &[u8],
-    entries: &[u8],
-    records: &[u8],
-) -> bool {
-    if !holds_words(rom, words) {
-        return false;
-    }
-    if !holds(sheet, entries) {
-        return false;
-    }
-    holds(inputs, records)
-}
-
-// Whether the buffers hold a file's words, entries and records, and these are all that the file has.
-fn filled(
-    rom: &[u16],
-    sheet: &[u8],
-    inputs: &[u8],
     file: &[u8],
+    rom: &[u16],
+    sheet: &[u8],
+    inputs: &[u8],
     words: usize,
     entries: usize,
     records: usize,
 ) -> bool {
-    let bytes = words % 2048 * 2;
-    let sheet_at = 4 + bytes + 2;
+    let size = words % 2048 * 2;
+    let sheet_at = 4 + size + 2;
     let inputs_at = sheet_at + entries % 2048 + 2;
-    let size = records % 4096 * 11;
-    if file.len() != inputs_at + size {
+    if !holds_words(rom, part(file, 4, size)) {
         return false;
     }
-    hold(
-        rom,
-        sheet,
-        inputs,
-        part(file, 4, bytes),
-        part(file, sheet_at, entries),
-        part(file, inputs_at, size),
-    )
+    if !holds(sheet, part(file, sheet_at, entries)) {
+        return false;
+    }
+    holds(inputs, part(file, inputs_at, records % 4096 * 11))
 }
 
-// Whether a file is read as this station.
-pub fn reads_as(file: &[u8], words: &[u8], entries: &[u8], records: &[u8]) -> bool {
-    let mut rom = [WORD_MARK; WORDS];
-    let mut sheet = [MARK; WORDS];
-    let mut inputs = [MARK; INPUTS];
-    match station_file::read(file, &mut rom, &mut sheet, &mut inputs) {
-        Loaded::Refused(_) => false,
-        Loaded::Station {
-            words: _,
-            entries: _,
-            records: _,
-        } => hold(&rom, &sheet, &inputs, words, entries, records),
+// The same, where these are all that the file has.
+fn filled(
+    file: &[u8],
+    rom: &[u16],
+    sheet: &[u8],
+    inputs: &[u8],
+    words: usize,
+    entries: usize,
+    records: usize,
+) -> bool {
+    if file.len() != 8 + words % 2048 * 2 + entries % 2048 + records % 4096 * 11 {
+        return false;
     }
+    hold(file, rom, sheet, inputs, words, entries, records)
 }

@@ -7,6 +7,7 @@ use crate::compare::byte_at;
 use crate::compare::words_of;
 use crate::print::byte;
 use crate::print::decimal;
+use crate::print::letter;
 use crate::print::say;
 use crate::reading::Outcome;
 use crate::reading::read;
@@ -35,14 +36,22 @@ fn outcome(bytes: &[u8], b: Bench) -> Outcome {
     read(part(bytes, 0, b.size), b)
 }
 
-fn say_refusal(n: u8, kept: bool) {
-    say(b"REFUSED ");
-    decimal(n as u64);
-    if kept {
-        say(b" kept");
+fn say_count(text: &[u8], n: usize) {
+    say(text);
+    decimal(n);
+}
+
+fn say_right(right: bool, text: &[u8]) {
+    if right {
+        say(text);
     } else {
-        say(b" CHANGED");
+        say(b" WRONG");
     }
+}
+
+fn say_refusal(n: u8, kept: bool) {
+    say_count(b"REFUSED ", n as usize);
+    say_right(kept, b" kept");
 }
 
 fn say_wrote(wrote: Wrote) {
@@ -50,27 +59,18 @@ fn say_wrote(wrote: Wrote) {
         say_refusal(wrote.refusal, wrote.right);
         return;
     }
-    say(b"WRITTEN ");
-    decimal(wrote.size as u64);
-    if wrote.right {
-        say(b" same");
-    } else {
-        say(b" WRONG");
-    }
+    say_count(b"WRITTEN ", wrote.size);
+    say_right(wrote.right, b" same");
 }
 
 fn say_station(o: Outcome) {
-    say(b"STATION ");
-    decimal(o.words as u64);
-    say(b" ");
-    decimal(o.entries as u64);
-    say(b" ");
-    decimal(o.records as u64);
-    if o.right {
-        say(b" filled, ");
-    } else {
-        say(b" WRONG, ");
-    }
+    say_count(b"STATION ", o.words);
+    letter(b' ');
+    decimal(o.entries);
+    letter(b' ');
+    decimal(o.records);
+    say_right(o.right, b" filled");
+    say(b", ");
     say_wrote(o.whole);
     say(b", ");
     say_wrote(o.short);
@@ -129,22 +129,23 @@ fn same(a: Outcome, b: Outcome) -> bool {
 }
 
 // What stands before an outcome: the value that it begins with.
-fn say_value(n: u32, is_byte: bool, first: bool) {
+fn say_value(n: usize, is_byte: bool, first: bool) {
     if first {
-        say(b": ");
+        letter(b':');
     } else {
-        say(b"; ");
+        letter(b';');
     }
+    letter(b' ');
     if is_byte {
-        byte((n % 256) as u16);
+        byte(n);
     } else {
-        decimal(n as u64);
+        decimal(n);
     }
-    say(b" ");
+    letter(b' ');
 }
 
 // Prints the outcome for one value, where it is not the outcome before.
-fn said(o: Outcome, before: Outcome, n: u32, parts: bool, is_byte: bool, first: bool) -> Outcome {
+fn said(o: Outcome, before: Outcome, n: usize, parts: bool, is_byte: bool, first: bool) -> Outcome {
     if !first {
         if same(o, before) {
             return o;
@@ -156,13 +157,13 @@ fn said(o: Outcome, before: Outcome, n: u32, parts: bool, is_byte: bool, first: 
 }
 
 // The same for a byte at a place.
-fn tried(bytes: &mut [u8], b: Bench, at: usize, n: u32, before: Outcome, first: bool) -> Outcome {
+fn tried(bytes: &mut [u8], b: Bench, at: usize, n: usize, before: Outcome, first: bool) -> Outcome {
     set(bytes, at, (n % 256) as u8);
     said(outcome(bytes, b), before, n, b.parts, true, first)
 }
 
 // The outcomes with each byte at a place, from the first to before the end. The byte that was there comes back.
-pub fn each(bytes: &mut [u8], b: Bench, at: usize, first: u32, end: u32) {
+pub fn each(bytes: &mut [u8], b: Bench, at: usize, first: usize, end: usize) {
     let old = byte_at(bytes, at);
     let mut before = refused(0, true);
     for n in first..end {
@@ -172,10 +173,10 @@ pub fn each(bytes: &mut [u8], b: Bench, at: usize, first: u32, end: u32) {
 }
 
 // The outcomes of the first bytes, from so many to before the end.
-pub fn cuts(bytes: &[u8], mut b: Bench, first: u32, end: u32) {
+pub fn cuts(bytes: &[u8], mut b: Bench, first: usize, end: usize) {
     let mut before = refused(0, true);
     for n in first..end {
-        b.size = n as usize;
+        b.size = n;
         before = said(outcome(bytes, b), before, n, b.parts, false, n == first);
     }
 }

@@ -5,7 +5,7 @@ ghost use Prim.Native.Nat.{_<_};
 // it.
 pub struct Word {
     pub name: u64,
-    pub value: u32,
+    pub value: usize,
     pub next: usize,
 }
 
@@ -50,14 +50,14 @@ fn longer(name: u64, c: u8) -> u64 {
 // The next word from a place on.
 pub fn scan(text: &[u8], from: usize) -> Word {
     let mut name: u64 = 0;
-    let mut value: u32 = 0;
+    let mut value: usize = 0;
     let mut i = skip_blanks(text, from);
     while i < text.len() {
         if is_end(text[i]) {
             break;
         }
         name = longer(name, text[i]);
-        value = value % 0x1000_0000 * 16 + digit(text[i]) as u32;
+        value = value % 0x1000_0000 * 16 + digit(text[i]) as usize;
         i += 1;
     }
     Word {

@@ -17,7 +17,7 @@ use crate::bench::Bench;
 use crate::bench::empty;
 use crate::bench::set;
 use crate::bench::with_byte;
-use crate::print::line;
+use crate::print::letter;
 use crate::print::say;
 use crate::report::cuts;
 use crate::report::each;
@@ -33,23 +33,6 @@ fn directive(name: u64) -> u16 {
         b"case also times cut set room out parts try each cuts",
         name,
     )
-}
-
-// A number as a byte, as a count, as a length or a place, and the number after it.
-fn byte(a: Word) -> u8 {
-    (a.value % 256) as u8
-}
-
-fn count(a: Word) -> u16 {
-    (a.value % 65536) as u16
-}
-
-fn whole(a: Word) -> usize {
-    a.value as usize
-}
-
-fn past(a: Word) -> u32 {
-    a.value % 65536 + 1
 }
 
 // The rest of a line.
@@ -70,17 +53,21 @@ fn say_rest(text: &[u8], from: usize) {
 // Begins a line of output, and ends the one before.
 fn begin(text: &[u8], from: usize, b: Bench) {
     if b.begun {
-        line();
+        letter(b'\n');
     }
     say_rest(text, from);
 }
 
-// A word's byte, where there is a word.
+// A word's byte, where there is a word. A name in small letters is no byte.
 fn put_byte(word: Word, bytes: &mut [u8], b: Bench) -> Bench {
     if word.name == 0 {
         return b;
     }
-    with_byte(b, bytes, byte(word))
+    if b'a' as u64 <= word.name % 256 {
+        letter(b'?');
+        return b;
+    }
+    with_byte(b, bytes, (word.value % 256) as u8)
 }
 
 // The bytes of a line, at most 64.
@@ -95,48 +82,39 @@ fn put(text: &[u8], from: usize, bytes: &mut [u8], mut b: Bench) -> Bench {
 }
 
 fn times(text: &[u8], n: Word, bytes: &mut [u8], mut b: Bench) -> Bench {
-    for _ in 0..count(n) {
+    for _ in 0..n.value {
         b = put(text, n.next, bytes, b);
     }
     b
 }
 
-// A line that is no directive: bytes, or a name that no list has.
-fn list(text: &[u8], at: usize, first: Word, bytes: &mut [u8], b: Bench) -> Bench {
-    if b'a' as u64 <= first.name % 256 {
-        say(b" ? ");
-        return b;
-    }
-    put(text, at, bytes, b)
-}
-
 // Directives that set numbers of the bench.
-fn setting(k: u16, x: Word, y: Word, z: Word, mut b: Bench) -> Bench {
+fn setting(k: u16, x: usize, y: usize, z: usize, mut b: Bench) -> Bench {
     match k {
-        3 => b.size = whole(x),
+        3 => b.size = x,
         5 => {
-            b.rom_room = whole(x);
-            b.sheet_room = whole(y);
-            b.inputs_room = whole(z);
+            b.rom_room = x;
+            b.sheet_room = y;
+            b.inputs_room = z;
         }
-        6 => b.out_room = whole(x),
+        6 => b.out_room = x,
         _ => {
             b.parts = true;
-            b.words = whole(x);
-            b.entries = whole(y);
-            b.inputs = whole(z);
+            b.words = x;
+            b.entries = y;
+            b.inputs = z;
         }
     }
     b
 }
 
 // Those that print, or change bytes.
-fn show(k: u16, x: Word, y: Word, z: Word, bytes: &mut [u8], b: Bench) {
+fn show(k: u16, x: usize, y: usize, z: usize, bytes: &mut [u8], b: Bench) {
     match k {
-        4 => set(bytes, whole(x), byte(y)),
+        4 => set(bytes, x, (y % 256) as u8),
         8 => try_all(bytes, b),
-        9 => each(bytes, b, whole(x), y.value, past(z)),
-        _ => cuts(bytes, b, x.value, past(y)),
+        9 => each(bytes, b, x, y, z % 65536 + 1),
+        _ => cuts(bytes, b, x, y % 65536 + 1),
     }
 }
 
@@ -145,9 +123,9 @@ fn operands(k: u16, text: &[u8], from: usize, bytes: &mut [u8], b: Bench) -> Ben
     let y = scan(text, x.next);
     let z = scan(text, y.next);
     match k {
-        3 | 5..=7 => setting(k, x, y, z, b),
+        3 | 5..=7 => setting(k, x.value, y.value, z.value, b),
         _ => {
-            show(k, x, y, z, bytes, b);
+            show(k, x.value, y.value, z.value, bytes, b);
             b
         }
     }
@@ -171,6 +149,6 @@ pub fn perform(text: &[u8], at: usize, bytes: &mut [u8], b: Bench) -> Bench {
         }
         2 => times(text, scan(text, first.next), bytes, b),
         3..=10 => operands(k, text, first.next, bytes, b),
-        _ => list(text, at, first, bytes, b),
+        _ => put(text, at, bytes, b),
     }
 }

@@ -1,10 +1,11 @@
 // The writer's answers, with what the lent buffer then holds.
 use crate::bench::BYTES;
+use crate::bench::empty;
 use crate::bench::least;
 use crate::bench::part;
 use crate::compare::MARK;
 use crate::compare::holds;
-use crate::reading::reads_as;
+use crate::reading::read;
 use station_file::Written;
 
 pub struct Wrote {
@@ -62,5 +63,33 @@ fn is_station(out: &[u8], size: usize, words: &[u8], sheet: &[u8], inputs: &[u8]
     if size == 0 {
         return true;
     }
-    reads_as(file, words, sheet, inputs)
+    if !is_read(file) {
+        return false;
+    }
+    has_parts(file, words, sheet, inputs)
+}
+
+// Whether a file is read, and the reader's buffers then hold what it has.
+fn is_read(file: &[u8]) -> bool {
+    let o = read(file, empty());
+    if o.refusal != 0 {
+        return false;
+    }
+    o.right
+}
+
+// Whether a file has these words, entries and inputs.
+fn has_parts(file: &[u8], words: &[u8], sheet: &[u8], inputs: &[u8]) -> bool {
+    let sheet_at = 4 + words.len() % 4096 + 2;
+    if !has(file, 4, words) {
+        return false;
+    }
+    if !has(file, sheet_at, sheet) {
+        return false;
+    }
+    has(file, sheet_at + sheet.len() % 4096 + 2, inputs)
+}
+
+fn has(file: &[u8], at: usize, wanted: &[u8]) -> bool {
+    holds(part(file, at, wanted.len()), wanted)
 }

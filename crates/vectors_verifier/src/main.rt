@@ -8,7 +8,7 @@ mod scan;
 mod script;
 
 use bench::cleared;
-use print::line;
+use print::letter;
 use script::perform;
 
 // Whether a line begins at a place.
@@ -29,7 +29,7 @@ fn run_script(text: &[u8]) {
             b = perform(text, at, b);
         }
     }
-    line();
+    letter(b'\n');
 }
 
 fn main() {

@@ -3,6 +3,10 @@ pub fn say(text: &[u8]) {
     io::write_all(1, text);
 }
 
+pub fn letter(c: u8) {
+    say(&[c]);
+}
+
 pub fn decimal(n: u64) {
     io::print_decimal(1, n);
 }
@@ -21,8 +25,4 @@ pub fn address(n: u16) {
 pub fn word(n: u16) {
     let all = text::hex4(n);
     say(&all);
-}
-
-pub fn line() {
-    say(b"\n");
 }

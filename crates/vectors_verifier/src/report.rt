@@ -5,6 +5,7 @@ use crate::bench::with_word;
 use crate::print::address;
 use crate::print::byte;
 use crate::print::decimal;
+use crate::print::letter;
 use crate::print::say;
 use crate::print::word;
 use verifier::Verdict;
@@ -49,7 +50,7 @@ fn show_refusal(number: u8) {
 fn show_fail(at: u16, rule: u8) {
     say(b"FAIL ");
     address(at);
-    say(b" ");
+    letter(b' ');
     decimal(rule as u64);
 }
 
@@ -72,16 +73,17 @@ fn number(verdict: Verdict) -> u32 {
 // What stands before an answer: the value that it begins with.
 fn show_value(n: u32, is_word: bool, first: bool) {
     if first {
-        say(b": ");
+        letter(b':');
     } else {
-        say(b", ");
+        letter(b',');
     }
+    letter(b' ');
     if is_word {
         word((n % 65536) as u16);
     } else {
         byte((n % 256) as u16);
     }
-    say(b" ");
+    letter(b' ');
 }
 
 // A bench with a word or an entry changed.

@@ -13,7 +13,7 @@
 use crate::bench::Bench;
 use crate::bench::filled;
 use crate::bench::listed;
-use crate::print::line;
+use crate::print::letter;
 use crate::print::say;
 use crate::report::check;
 use crate::report::sweep;
@@ -54,7 +54,7 @@ fn say_rest(text: &[u8], from: usize) {
 // Begins a line of output, and ends the one before.
 fn begin(text: &[u8], from: usize, b: Bench) {
     if b.begun {
-        line();
+        letter(b'\n');
     }
     say_rest(text, from);
 }

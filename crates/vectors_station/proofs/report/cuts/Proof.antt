@@ -15,9 +15,6 @@ refused-requires c κs = search needs
 loop-holds : tie.Need-loop-holds Inv-loop μ-loop
 loop-holds c = search needs
 
-cast-b : tie.Need-cast-b Inv-loop μ-loop
-cast-b c = search needs
-
 outcome-requires : tie.Need-outcome-requires Inv-loop μ-loop
 outcome-requires c κs = search needs
 
@@ -44,7 +41,6 @@ cuts-spec =
     μ-loop
     refused-requires
     loop-holds
-    cast-b
     outcome-requires
     said-requires
     add-n

@@ -11,9 +11,6 @@ Inv-loop text n bytes₀ b₀ counter₀ end bytes b counter = length bytes ≡ 
 abbrev μ-loop : tie.MeasureT-loop
 μ-loop text n bytes₀ b₀ counter₀ end bytes b counter = end - counter
 
-count-requires : tie.Need-count-requires Inv-loop μ-loop
-count-requires c κs = search needs
-
 loop-holds : tie.Need-loop-holds Inv-loop μ-loop
 loop-holds c = search needs
 
@@ -41,7 +38,6 @@ times-spec =
     (tie.spec
     Inv-loop
     μ-loop
-    count-requires
     loop-holds
     put-requires
     add-counter

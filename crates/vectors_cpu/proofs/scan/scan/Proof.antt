@@ -1,14 +1,17 @@
 use Prim.Native.Nat.{_≤_, _-_}
 use lib.ListN.{length}
 use borrow.Author.Needs.{needs}
-use Rattle.vectors_cpu.proofs.scan.plain.Statement.{statement}
-use Rattle.vectors_cpu.proofs.scan.plain.Tie as tie
+use Rattle.vectors_cpu.proofs.scan.scan.Statement.{statement}
+use Rattle.vectors_cpu.proofs.scan.scan.Tie as tie
 
 abbrev Inv-loop : tie.InvT-loop
 Inv-loop text from name₀ value₀ i₀ name value i = 0 ≤ i
 
 abbrev μ-loop : tie.MeasureT-loop
 μ-loop text from name₀ value₀ i₀ name value i = length text - i
+
+skip-blanks-requires : tie.Need-skip-blanks-requires Inv-loop μ-loop
+skip-blanks-requires c κs = search needs
 
 loop-holds : tie.Need-loop-holds Inv-loop μ-loop
 loop-holds c = search needs
@@ -55,12 +58,13 @@ returns c = search needs
 returns-2 : tie.Need-returns-2 Inv-loop μ-loop
 returns-2 c = search needs
 
-pub plain-spec : {M : Type 1} → statement M
-plain-spec =
+pub scan-spec : {M : Type 1} → statement M
+scan-spec =
     tie.close
     (tie.spec
     Inv-loop
     μ-loop
+    skip-blanks-requires
     loop-holds
     shared-slice-read-is-end
     is-end-requires

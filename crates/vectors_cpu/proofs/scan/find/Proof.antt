@@ -1,13 +1,13 @@
 use Prim.Native.Nat.{_≤_, _-_}
 use borrow.Author.Needs.{needs}
-use Rattle.vectors_cpu.proofs.names.find.Statement.{statement}
-use Rattle.vectors_cpu.proofs.names.find.Tie as tie
+use Rattle.vectors_cpu.proofs.scan.find.Statement.{statement}
+use Rattle.vectors_cpu.proofs.scan.find.Tie as tie
 
 abbrev Inv-loop : tie.InvT-loop
-Inv-loop names name from₀ k₀ from k = k ≤ 64
+Inv-loop names name from₀ k₀ from k = k ≤ 23
 
 abbrev μ-loop : tie.MeasureT-loop
-μ-loop names name from₀ k₀ from k = 64 - k
+μ-loop names name from₀ k₀ from k = 23 - k
 
 loop-holds : tie.Need-loop-holds Inv-loop μ-loop
 loop-holds c = search needs
