@@ -14,6 +14,7 @@ use Rattle.memory.proofs.Staying.{whole, kept-nibble, nibble-kept}
 use Rattle.memory.specs.Chip.{upd17132}
 use Rattle.memory.specs.Names.{P0E, AR3, AR2, BANK, IXH, IXM, RPH}
 use Rattle.memory.specs.Range.{cellInRange, cellsInRange}
+use Rattle.machine.specs.Inside.{fixedInRange}
 use Rattle.machine.specs.Ranges.{isNibble}
 
 -- two tests that pass together
@@ -48,9 +49,8 @@ module _ (cells : List ℕ) where
   abbrev fits : ℕ → Bool
   fits = cellInRange upd17132 cells
 
-  -- the seven, in document 01's order
-  abbrev pub seven : Bool
-  seven = fits AR3 && (fits BANK && (fits RPH && (fits AR2 && (fits IXH && (fits IXM && fits P0E)))))
+  abbrev seven : Bool
+  seven = fixedInRange upd17132 cells
 
   small : (k : ℕ) → k < 128 → T (fits k) → T (isNibble cells k)
   small k h t = passed (lt-ltb _ _ (kept-nibble k (getD cells k 0) h (eqb→eq _ _ t)))

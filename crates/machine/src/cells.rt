@@ -1,11 +1,10 @@
 // Which cells are in range.
 ghost use mathlib.Core.Path.{_≡_};
-ghost use mathlib.Core.Bool.{_&&_};
 ghost use Prim.Native.Nat.{_<_};
 ghost use Rattle.laws.specs.Every.{every};
 ghost use Rattle.memory.specs.Chip.{upd17132};
-ghost use Rattle.memory.specs.Names.{P0E, AR3, AR2, BANK, IXH, IXM, RPH};
 ghost use Rattle.memory.specs.Range.{cellInRange, cellsInRange};
+ghost use Rattle.machine.specs.Inside.{fixedInRange};
 ghost use Rattle.machine.specs.Ranges.{isNibble};
 use memory::Memory;
 
@@ -33,7 +32,7 @@ fn stays(cells: &[u8; 128], at: u8) -> bool
 
 // The seven cells where not every bit of a nibble stays.
 fn fixed_bits(cells: &[u8; 128]) -> bool
-    ensures { λ r. ⌜ r ≡ (cellInRange upd17132 (now (cells .entry)) AR3 && (cellInRange upd17132 (now (cells .entry)) BANK && (cellInRange upd17132 (now (cells .entry)) RPH && (cellInRange upd17132 (now (cells .entry)) AR2 && (cellInRange upd17132 (now (cells .entry)) IXH && (cellInRange upd17132 (now (cells .entry)) IXM && cellInRange upd17132 (now (cells .entry)) P0E)))))) ⌝ }
+    ensures { λ r. ⌜ r ≡ fixedInRange upd17132 (now (cells .entry)) ⌝ }
 {
     if !stays(cells, Memory::AR3) {
         return false;

@@ -5,6 +5,7 @@ mod arithmetic;
 mod check;
 mod files;
 mod kit;
+mod lines;
 mod logic;
 mod numbers;
 mod ports;
