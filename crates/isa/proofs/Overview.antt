@@ -1,10 +1,10 @@
--- The opcodes as the decoder reads them: seven operations in two forms, single opcodes, and what is left.
+-- The opcodes as the decoder reads them, and what is left.
 -- Assumes nothing.
 use mathlib.Core.Path.{_≡_, refl}
 use mathlib.Core.List.{List, [], _∷_}
 use Prim.Native.Nat.{ℕ, _+_, _-_, _/_, _<_, _≤_}
 use native.Mathlib.Omega.{arith}
-use Rattle.laws.proofs.Arms.{Span, Rest, AllOutside, in-rest}
+use Rattle.laws.proofs.Arms.{Rest, in-rest}
 use Rattle.isa.proofs.None.{isNone, is-none}
 use Rattle.isa.specs.Answers.{is}
 use Rattle.isa.specs.Decode.{entryOf, overview, none}
@@ -37,15 +37,7 @@ module _ (m x addr : ℕ) where
   immediate-at And = refl
   immediate-at Xor = refl
 
-  pub register : (op : AluOp) (n : ℕ) → aluCode op ≡ n → is (AluRegister op x m) ≡ entryOf n m x addr
-  register op n e = rw (← e) (register-at op)
-
-  pub immediate : (op : AluOp) (n : ℕ) → 16 ≤ n → aluCode op ≡ n - 16 → is (AluImmediate op m x) ≡ entryOf n m x addr
-  immediate op n h e =
-      let whole : 16 + aluCode op ≡ n = omega arith in
-      rw (← whole) (immediate-at op)
-
--- the decoder's arms, the last one first, and the two that are ranges
+-- the decoder's arms, the last one first
 abbrev pub keys : List (List ℕ)
 keys =
     (31 ∷ [])
@@ -56,23 +48,31 @@ keys =
     ∷ (26 ∷ [])
     ∷ (25 ∷ [])
     ∷ (24 ∷ [])
+    ∷ (22 ∷ [])
+    ∷ (21 ∷ [])
+    ∷ (20 ∷ [])
+    ∷ (19 ∷ [])
+    ∷ (18 ∷ [])
+    ∷ (17 ∷ [])
+    ∷ (16 ∷ [])
     ∷ (12 ∷ [])
     ∷ (11 ∷ [])
     ∷ (10 ∷ [])
     ∷ (9 ∷ [])
     ∷ (8 ∷ [])
     ∷ (7 ∷ [])
+    ∷ (6 ∷ [])
+    ∷ (5 ∷ [])
+    ∷ (4 ∷ [])
+    ∷ (3 ∷ [])
+    ∷ (2 ∷ [])
+    ∷ (1 ∷ [])
+    ∷ (0 ∷ [])
     ∷ []
 
-abbrev pub spans : List Span
-spans = record { first = 0; last = 6 } ∷ record { first = 16; last = 22 } ∷ []
-
 -- what no arm takes is no instruction: tested at each of the 32 opcodes
-pub unlisted : (m x addr n : ℕ) → n < 32 → Rest keys n → AllOutside spans n → none ≡ entryOf n m x addr
+pub unlisted : (m x addr n : ℕ) → n < 32 → Rest keys n → none ≡ entryOf n m x addr
 unfolding entryOf overview
-unlisted m x addr n h r o =
+unlisted m x addr n h r =
     is-none (entryOf n m x addr)
-    (in-rest keys spans (λ (k : ℕ). isNone (entryOf k m x addr)) 32 tt n h r o)
-
-pub below-seven : (n : ℕ) → n < 23 → n - 16 < 7
-below-seven n h = omega arith
+    (in-rest keys [] (λ (k : ℕ). isNone (entryOf k m x addr)) 32 tt n h r tt)

@@ -1,29 +1,13 @@
 // From a word to its instruction: a decision over the 32 opcodes and over the sub-words of opcode 7.
 ghost use mathlib.Core.Path.{_≡_};
-ghost use Prim.Native.Nat.{_/_, _%_, _<_};
+ghost use Prim.Native.Nat.{_/_, _%_};
 ghost use Rattle.isa.specs.Answers.{decodingOf, is};
 ghost use Rattle.isa.specs.Decode.{decodeOf, groupOf};
-ghost use Rattle.isa.specs.Encode.{aluCode};
 use crate::AluOp;
 use crate::Decoded;
 use crate::FixedOp;
 use crate::Instruction;
 use crate::SkipOp;
-
-// The operation with the code 0 to 6; any other code gives OR.
-fn alu_op(code: u16) -> AluOp
-    ensures { λ r. ⌜ (code < 7 → aluCode r ≡ code) ⌝ }
-{
-    match code {
-        0 => AluOp::Add,
-        1 => AluOp::Sub,
-        2 => AluOp::AddC,
-        3 => AluOp::SubC,
-        4 => AluOp::And,
-        5 => AluOp::Xor,
-        _ => AluOp::Or,
-    }
-}
 
 // An instruction without operand.
 fn fixed(op: FixedOp) -> Decoded
@@ -74,8 +58,38 @@ pub fn decode(word: u16) -> Decoded
     let m = (word / 16 % 128) as u8;
     let x = (word % 16) as u8;
     match op {
-        0..=6 => Decoded::Instruction(Instruction::AluRegister {
-            op: alu_op(op),
+        0 => Decoded::Instruction(Instruction::AluRegister {
+            op: AluOp::Add,
+            r: x,
+            m: m,
+        }),
+        1 => Decoded::Instruction(Instruction::AluRegister {
+            op: AluOp::Sub,
+            r: x,
+            m: m,
+        }),
+        2 => Decoded::Instruction(Instruction::AluRegister {
+            op: AluOp::AddC,
+            r: x,
+            m: m,
+        }),
+        3 => Decoded::Instruction(Instruction::AluRegister {
+            op: AluOp::SubC,
+            r: x,
+            m: m,
+        }),
+        4 => Decoded::Instruction(Instruction::AluRegister {
+            op: AluOp::And,
+            r: x,
+            m: m,
+        }),
+        5 => Decoded::Instruction(Instruction::AluRegister {
+            op: AluOp::Xor,
+            r: x,
+            m: m,
+        }),
+        6 => Decoded::Instruction(Instruction::AluRegister {
+            op: AluOp::Or,
             r: x,
             m: m,
         }),
@@ -93,8 +107,38 @@ pub fn decode(word: u16) -> Decoded
             n4: x,
         }),
         12 => Decoded::Instruction(Instruction::Br(word % 2048)),
-        16..=22 => Decoded::Instruction(Instruction::AluImmediate {
-            op: alu_op(op - 16),
+        16 => Decoded::Instruction(Instruction::AluImmediate {
+            op: AluOp::Add,
+            m: m,
+            n4: x,
+        }),
+        17 => Decoded::Instruction(Instruction::AluImmediate {
+            op: AluOp::Sub,
+            m: m,
+            n4: x,
+        }),
+        18 => Decoded::Instruction(Instruction::AluImmediate {
+            op: AluOp::AddC,
+            m: m,
+            n4: x,
+        }),
+        19 => Decoded::Instruction(Instruction::AluImmediate {
+            op: AluOp::SubC,
+            m: m,
+            n4: x,
+        }),
+        20 => Decoded::Instruction(Instruction::AluImmediate {
+            op: AluOp::And,
+            m: m,
+            n4: x,
+        }),
+        21 => Decoded::Instruction(Instruction::AluImmediate {
+            op: AluOp::Xor,
+            m: m,
+            n4: x,
+        }),
+        22 => Decoded::Instruction(Instruction::AluImmediate {
+            op: AluOp::Or,
             m: m,
             n4: x,
         }),

@@ -1,7 +1,4 @@
-use Rattle.isa.proofs.Overview.{below-seven}
-use mathlib.Core.Logic.{inl, inr}
-use native.Mathlib.Omega.{arith}
-use Rattle.isa.proofs.Overview.{register, immediate, unlisted, op-below}
+use Rattle.isa.proofs.Overview.{unlisted, op-below}
 use Rattle.isa.specs.Decode.{decodeOf, entryOf, overview}
 use borrow.Author.Needs.{needs}
 use Rattle.isa.proofs.decoder.decode.Statement.{statement}
@@ -16,15 +13,9 @@ cast-x c = search needs
 group-word-requires : tie.Need-group-word-requires
 group-word-requires c κs = search needs
 
-alu-op-requires : tie.Need-alu-op-requires
-alu-op-requires c κs = search needs
-
-alu-op-requires-2 : tie.Need-alu-op-requires-2
-alu-op-requires-2 c κs = search needs
-
 returns : tie.Need-returns
 unfolding decodeOf entryOf overview
-returns c = rw (c .before .match .keys1) (c .group-word .ensures)
+returns c = rw (c .match .keys1)
 
 returns-2 : tie.Need-returns-2
 unfolding decodeOf entryOf overview
@@ -52,7 +43,7 @@ returns-7 c = rw (c .match .keys7)
 
 returns-8 : tie.Need-returns-8
 unfolding decodeOf entryOf overview
-returns-8 c = rw (c .match .keys8)
+returns-8 c = rw (c .before .match .keys8) (c .group-word .ensures)
 
 returns-9 : tie.Need-returns-9
 unfolding decodeOf entryOf overview
@@ -79,26 +70,64 @@ unfolding decodeOf entryOf overview
 returns-14 c = rw (c .match .keys14)
 
 returns-15 : tie.Need-returns-15
-unfolding decodeOf
-returns-15 c = register _ _ _ _ _ (c .alu-op .ensures (omega arith))
+unfolding decodeOf entryOf overview
+returns-15 c = rw (c .match .keys15)
 
 returns-16 : tie.Need-returns-16
-unfolding decodeOf
-returns-16 c = immediate _ _ _ _ _ (c .before .before .if2 .left) (c .alu-op2 .ensures (below-seven _ (c .before .if3 .taken)))
+unfolding decodeOf entryOf overview
+returns-16 c = rw (c .match .keys16)
 
 returns-17 : tie.Need-returns-17
-unfolding decodeOf
-returns-17 c =
-    let s = c .before .before .before in
-    unlisted _ _ _ _ (op-below (s .args .word) (s .fits .word .fits)) (c .before .before .match .rest)
-    (inr (c .before .if1 .left), (inl (c .if2 .taken), tt))
+unfolding decodeOf entryOf overview
+returns-17 c = rw (c .match .keys17)
 
 returns-18 : tie.Need-returns-18
+unfolding decodeOf entryOf overview
+returns-18 c = rw (c .match .keys18)
+
+returns-19 : tie.Need-returns-19
+unfolding decodeOf entryOf overview
+returns-19 c = rw (c .match .keys19)
+
+returns-20 : tie.Need-returns-20
+unfolding decodeOf entryOf overview
+returns-20 c = rw (c .match .keys20)
+
+returns-21 : tie.Need-returns-21
+unfolding decodeOf entryOf overview
+returns-21 c = rw (c .match .keys21)
+
+returns-22 : tie.Need-returns-22
+unfolding decodeOf entryOf overview
+returns-22 c = rw (c .match .keys22)
+
+returns-23 : tie.Need-returns-23
+unfolding decodeOf entryOf overview
+returns-23 c = rw (c .match .keys23)
+
+returns-24 : tie.Need-returns-24
+unfolding decodeOf entryOf overview
+returns-24 c = rw (c .match .keys24)
+
+returns-25 : tie.Need-returns-25
+unfolding decodeOf entryOf overview
+returns-25 c = rw (c .match .keys25)
+
+returns-26 : tie.Need-returns-26
+unfolding decodeOf entryOf overview
+returns-26 c = rw (c .match .keys26)
+
+returns-27 : tie.Need-returns-27
+unfolding decodeOf entryOf overview
+returns-27 c = rw (c .match .keys27)
+
+returns-28 : tie.Need-returns-28
+unfolding decodeOf entryOf overview
+returns-28 c = rw (c .match .keys28)
+
+returns-29 : tie.Need-returns-29
 unfolding decodeOf
-returns-18 c =
-    let s = c .before .before .before .before in
-    unlisted _ _ _ _ (op-below (s .args .word) (s .fits .word .fits)) (c .before .before .before .match .rest)
-    (inr (c .before .before .if1 .left), (inr (c .if3 .left), tt))
+returns-29 c = unlisted _ _ _ _ (op-below (c .before .args .word) (c .before .fits .word .fits)) (c .match .rest)
 
 pub decode-spec : {M : Type 1} → statement M
 decode-spec =
@@ -107,8 +136,6 @@ decode-spec =
     cast-m
     cast-x
     group-word-requires
-    alu-op-requires
-    alu-op-requires-2
     returns
     returns-2
     returns-3
@@ -126,4 +153,15 @@ decode-spec =
     returns-15
     returns-16
     returns-17
-    returns-18)
+    returns-18
+    returns-19
+    returns-20
+    returns-21
+    returns-22
+    returns-23
+    returns-24
+    returns-25
+    returns-26
+    returns-27
+    returns-28
+    returns-29)
