@@ -2,8 +2,8 @@
 -- Assumes nothing.
 use mathlib.Core.Path.{_≡_, _∙_, ap}
 use Prim.Native.Nat.{ℕ, _+_, _%_, _^_, _<_}
-use native.Mathlib.Nat.{mod-lt, mod-eq-of-lt, mod-self, mod-add-mod}
-use lib.Pow.{pow-pos}
+use native.Mathlib.Nat.{mod-lt, mod-eq-of-lt, mod-self, mod-mod-of-dvd, dvd-mul-left}
+use lib.Pow.{pow-pos, pow-add}
 use Rattle.laws.specs.Wrap.{wrapNext, WrapLaws}
 
 module _ (width x : ℕ) where
@@ -19,6 +19,6 @@ module _ (width x : ℕ) where
   pub wrap-laws : WrapLaws width x
   wrap-laws = record { below = wrap-below; inner = wrap-inner; last = wrap-last }
 
-  -- as code computes it, which may not add before it has cut
-  pub wraps : (x % 2 ^ width + 1) % 2 ^ width ≡ wrapNext width x
-  wraps = mod-add-mod x (2 ^ width) 1
+  -- as the code computes it: an addition that wraps at a wider width, cut to this one
+  pub cut : (more : ℕ) → ((x + 1) % 2 ^ (more + width)) % 2 ^ width ≡ wrapNext width x
+  cut more = mod-mod-of-dvd (2 ^ width) (x + 1) (rw (pow-add 2 more width) (dvd-mul-left (2 ^ width) (2 ^ more)))

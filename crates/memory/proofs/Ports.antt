@@ -1,15 +1,22 @@
 -- The read of a cell that is a port, and of one that is none.
 -- Assumes nothing.
-use mathlib.Core.Path.{_≡_, refl, subst}
+use mathlib.Core.Path.{_≡_, refl}
 use mathlib.Core.List.{List}
-use Prim.Native.Nat.{ℕ, zero, suc, _+_, _-_, _%_, _≤_, _<_}
+use Prim.Native.Nat.{ℕ, zero, suc, _+_, _%_, _≤_, _<_}
 use native.Mathlib.Omega.{arith}
 use borrow.Author.Tests.{ne-eqb, lt-ltb, le-ltb}
 use lib.ListN.{getD}
 use Rattle.memory.specs.Cells.{cellAt}
 use Rattle.memory.specs.Chip.{Chip}
 use Rattle.memory.specs.Names.{P0A, P0B, P0C, P0D, P0E}
-use Rattle.memory.specs.Read.{readOf, portOf}
+use Rattle.memory.specs.Read.{mixOf, readOf, portOf}
+use Rattle.memory.specs.Write.{keptOf}
+
+pub some-cell : (cells : List ℕ) (at : ℕ) → at < 128 → getD cells at 0 ≡ cellAt cells at
+some-cell cells at h = simp (lt-ltb at 128 h)
+
+pub no-cell : (cells : List ℕ) (at : ℕ) → 128 ≤ at → 0 ≡ cellAt cells at
+no-cell cells at h = simp (le-ltb at 128 h)
 
 module _ (chip : Chip) (cells pins directions : List ℕ) where
   pub no-port : (at : ℕ) → (at ≡ P0A → ⊥) → (at ≡ P0B → ⊥) → (at ≡ P0C → ⊥) → (at ≡ P0D → ⊥) → (at ≡ P0E → ⊥)
@@ -24,10 +31,7 @@ module _ (chip : Chip) (cells pins directions : List ℕ) where
   above-ports at h = no-port at (λ x. omega arith) (λ x. omega arith) (λ x. omega arith) (λ x. omega arith) (λ x. omega arith)
 
   -- P0E comes first in memory and last in the input record
-  abbrev Port : ℕ → Type 0
-  Port at = portOf chip cells pins directions at ((at - P0E + 4) % 5) ≡ readOf chip cells pins directions at
-
-  port-from : (j : ℕ) → j < 5 → Port (P0E + j)
+  port-from : (j : ℕ) → j < 5 → portOf chip cells pins directions (P0E + j) ((j + 4) % 5) ≡ readOf chip cells pins directions (P0E + j)
   unfolding readOf
   port-from zero h = refl
   port-from (suc zero) h = refl
@@ -36,13 +40,9 @@ module _ (chip : Chip) (cells pins directions : List ℕ) where
   port-from (suc (suc (suc (suc zero)))) h = refl
   port-from (suc (suc (suc (suc (suc j))))) h = absurd (omega arith)
 
-  pub at-port : (at : ℕ) → P0E ≤ at → at ≤ P0D → Port at
-  at-port at a b =
-      let e : P0E + (at - P0E) ≡ at = omega arith in
-      subst Port e (port-from (at - P0E) (omega arith))
-
-pub some-cell : (cells : List ℕ) (at : ℕ) → at < 128 → getD cells at 0 ≡ cellAt cells at
-some-cell cells at h = simp (lt-ltb at 128 h)
-
-pub no-cell : (cells : List ℕ) (at : ℕ) → 128 ≤ at → 0 ≡ cellAt cells at
-no-cell cells at h = simp (le-ltb at 128 h)
+  -- a port by its number from P0E on
+  pub is-port : (at j : ℕ) → at ≡ P0E + j → j < 5
+      → keptOf chip at (mixOf (getD pins ((j + 4) % 5) 0) (getD directions ((j + 4) % 5) 0) (getD cells at 0))
+      ≡ readOf chip cells pins directions at
+  unfolding portOf
+  is-port at j e h = rw (e, some-cell cells (P0E + j) (omega arith)) (port-from j h)

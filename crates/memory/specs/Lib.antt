@@ -3,5 +3,7 @@ pub mod Chip
 pub mod Cells
 pub mod Write
 pub mod Read
+pub mod Address
+pub mod Registers
 pub mod Range
 pub mod WriteLaws

@@ -3,7 +3,7 @@ ghost use mathlib.Core.Path.{_≡_};
 ghost use Rattle.memory.specs.Cells.{isSet, withFlag};
 ghost use Rattle.memory.specs.Chip.{upd17132};
 ghost use Rattle.memory.specs.Read.{readOf, mixOf};
-ghost use Rattle.memory.specs.Write.{writeOf};
+ghost use Rattle.memory.specs.Write.{keptOf, writeOf};
 use crate::Memory;
 use crate::masks::mask;
 
@@ -19,15 +19,11 @@ pub fn write(cells: [u8; 128], at: u8, v: u8) -> [u8; 128]
     next
 }
 
-// The same where the cells stand. A write by value at a variable address copies them out and back.
+// The same for cells behind a reference: they become the whole array that `write` returned.
 pub fn store(cells: &mut [u8; 128], at: u8, v: u8)
     ensures { λ _. ⌜ now (cells .exit) ≡ writeOf upd17132 (now (cells .entry)) at v ⌝ }
 {
-    if 128 <= at {
-        *cells = write(*cells, at, v);
-        return;
-    }
-    cells[at as usize] = v & mask(at);
+    *cells = write(*cells, at, v);
 }
 
 // Bit by bit the pin where the direction is 0 and the stored bit where it is 1.
@@ -37,7 +33,15 @@ fn mix(pin: u8, direction: u8, stored: u8) -> u8
     (pin & (direction ^ 0b1111)) | (stored & direction)
 }
 
-// A cell as an instruction reads it. Pins and directions are those of P0A to P0E.
+// A port as it is read; a bit that is always 0 reads 0.
+fn port(at: u8, pin: u8, direction: u8, stored: u8) -> u8
+    ensures { λ r. ⌜ r ≡ keptOf upd17132 at (mixOf pin direction stored) ⌝ }
+{
+    mix(pin, direction, stored) & mask(at)
+}
+
+// A cell as an instruction reads it. Pins and directions are those of P0A to P0E. The ports lie side by side, so that most cells
+// are told by two tests.
 pub fn read(cells: &[u8; 128], pins: &[u8; 5], directions: &[u8; 5], at: u8) -> u8
     ensures { λ r. ⌜ r ≡ readOf upd17132 (now (cells .entry)) (now (pins .entry)) (now (directions .entry)) at ⌝ }
 {
@@ -51,8 +55,19 @@ pub fn read(cells: &[u8; 128], pins: &[u8; 5], directions: &[u8; 5], at: u8) -> 
     if Memory::P0D < at {
         return stored;
     }
-    let k = ((at - Memory::P0E + 4) % 5) as usize;
-    mix(pins[k], directions[k], stored) & mask(at)
+    if at == Memory::P0A {
+        return port(at, pins[0], directions[0], stored);
+    }
+    if at == Memory::P0B {
+        return port(at, pins[1], directions[1], stored);
+    }
+    if at == Memory::P0C {
+        return port(at, pins[2], directions[2], stored);
+    }
+    if at == Memory::P0D {
+        return port(at, pins[3], directions[3], stored);
+    }
+    port(at, pins[4], directions[4], stored)
 }
 
 // Whether a flag bit of a cell is 1.

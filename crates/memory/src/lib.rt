@@ -1,18 +1,31 @@
-// Data memory: 128 nibbles, eight rows of sixteen. The cells are an array by value, and one at a time is written.
+// Data memory: 128 nibbles, eight rows of sixteen. The cells are an array by value, and one at a time is written. The registers
+// that stand in it: effective addresses, WR, AR, IX and the data buffer.
+mod addressing;
 mod cells;
-mod counters;
 mod masks;
+mod registers;
 
+pub use addressing::address;
+pub use addressing::indirect;
+pub use addressing::ix;
+pub use addressing::register;
 pub use cells::is_set;
 pub use cells::read;
 pub use cells::store;
 pub use cells::with_flag;
 pub use cells::write;
-pub use counters::next;
 pub use masks::mask;
+pub use registers::ar;
+pub use registers::buffer;
+pub use registers::increment_ar;
+pub use registers::increment_ix;
+pub use registers::window;
+pub use registers::write_ar;
+pub use registers::write_buffer;
 ghost use mathlib.Core.Path.{_≡_};
 ghost use Rattle.memory.specs.Range.{resetMemory};
 
+#[repr(C)]
 pub struct Memory {
     pub cells: [u8; 128],
 }

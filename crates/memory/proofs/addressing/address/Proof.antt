@@ -1,0 +1,21 @@
+use Rattle.memory.specs.Address.{addressOf}
+use borrow.Author.Needs.{needs}
+use Rattle.memory.proofs.addressing.address.Statement.{statement}
+use Rattle.memory.proofs.addressing.address.Tie as tie
+
+is-set-requires : tie.Need-is-set-requires
+is-set-requires c κs = search needs
+
+ix-requires : tie.Need-ix-requires
+ix-requires c κs = search needs
+
+returns : tie.Need-returns
+unfolding addressOf
+returns c = simp (← c .before .before .is-set .ensures, c .before .if1 .taken, c .ix .ensures)
+
+returns-2 : tie.Need-returns-2
+unfolding addressOf
+returns-2 c = simp (← c .before .is-set .ensures, c .if1 .left)
+
+pub address-spec : {M : Type 1} → statement M
+address-spec = tie.close (tie.spec is-set-requires ix-requires returns returns-2)

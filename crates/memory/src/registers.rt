@@ -1,0 +1,112 @@
+// The registers of several cells, AR and the data buffer of four nibbles and IX of three; and the window register.
+ghost use mathlib.Core.Path.{_≡_};
+ghost use Prim.Native.Nat.{_%_};
+ghost use Rattle.laws.specs.Wrap.{wrapNext};
+ghost use Rattle.memory.specs.Chip.{upd17132};
+ghost use Rattle.memory.specs.Cells.{number};
+ghost use Rattle.memory.specs.Registers.{windowOf, arOf, bufferOf, numberWrites, arWrites, bufferWrites, incrementAr, incrementIx};
+ghost use Rattle.memory.specs.Write.{writesApplied};
+use crate::addressing::ix;
+use crate::Memory;
+
+use crate::cells::write;
+
+// One more, and 0 after 1,023: AR, a counter of ten bits.
+fn next_ar(x: u16) -> u16
+    ensures { λ r. ⌜ r ≡ wrapNext 10 x ⌝ }
+{
+    std::num::wrapping_add_u16(x, 1) % 1024
+}
+
+// One more, and 0 after 127: IX, a counter of seven bits.
+fn next_ix(x: u8) -> u8
+    ensures { λ r. ⌜ r ≡ wrapNext 7 x ⌝ }
+{
+    std::num::wrapping_add_u8(x, 1) % 128
+}
+
+// The number whose nibbles stand in four cells, the highest first.
+fn joined(a: u8, b: u8, c: u8, d: u8) -> u16
+    ensures { λ r. ⌜ r ≡ number (a % 16) (b % 16) (c % 16) (d % 16) ⌝ }
+{
+    (a % 16) as u16 * 4096 + (b % 16) as u16 * 256 + (c % 16) as u16 * 16 + (d % 16) as u16
+}
+
+// A number of 16 bits written to four cells, the highest nibble first.
+fn spread(cells: [u8; 128], a: u8, b: u8, c: u8, d: u8, v: u16) -> [u8; 128]
+    ensures { λ r. ⌜ r ≡ writesApplied upd17132 cells (numberWrites a b c d v) ⌝ }
+{
+    let first = write(cells, a, (v / 4096) as u8);
+    let second = write(first, b, (v / 256 % 16) as u8);
+    let third = write(second, c, (v / 16 % 16) as u8);
+    write(third, d, (v % 16) as u8)
+}
+
+// WR.
+pub fn window(cells: &[u8; 128]) -> u8
+    ensures { λ r. ⌜ r ≡ windowOf (now (cells .entry)) ⌝ }
+{
+    cells[Memory::WR as usize]
+}
+
+// AR.
+pub fn ar(cells: &[u8; 128]) -> u16
+    ensures { λ r. ⌜ r ≡ arOf (now (cells .entry)) ⌝ }
+{
+    joined(
+        cells[Memory::AR3 as usize],
+        cells[Memory::AR2 as usize],
+        cells[Memory::AR1 as usize],
+        cells[Memory::AR0 as usize],
+    )
+}
+
+pub fn write_ar(cells: [u8; 128], v: u16) -> [u8; 128]
+    ensures { λ r. ⌜ r ≡ writesApplied upd17132 cells (arWrites v) ⌝ }
+{
+    spread(cells, Memory::AR3, Memory::AR2, Memory::AR1, Memory::AR0, v)
+}
+
+// INC AR: after 3FFH comes 000H.
+pub fn increment_ar(cells: [u8; 128]) -> [u8; 128]
+    ensures { λ r. ⌜ r ≡ writesApplied upd17132 cells (incrementAr cells) ⌝ }
+{
+    let v = next_ar(ar(&cells));
+    write_ar(cells, v)
+}
+
+// The data buffer.
+pub fn buffer(cells: &[u8; 128]) -> u16
+    ensures { λ r. ⌜ r ≡ bufferOf (now (cells .entry)) ⌝ }
+{
+    joined(
+        cells[Memory::DBF3 as usize],
+        cells[Memory::DBF2 as usize],
+        cells[Memory::DBF1 as usize],
+        cells[Memory::DBF0 as usize],
+    )
+}
+
+pub fn write_buffer(cells: [u8; 128], v: u16) -> [u8; 128]
+    ensures { λ r. ⌜ r ≡ writesApplied upd17132 cells (bufferWrites v) ⌝ }
+{
+    spread(
+        cells,
+        Memory::DBF3,
+        Memory::DBF2,
+        Memory::DBF1,
+        Memory::DBF0,
+        v,
+    )
+}
+
+// INC IX: after 7FH comes 00H, and MPE stays.
+pub fn increment_ix(cells: [u8; 128]) -> [u8; 128]
+    ensures { λ r. ⌜ r ≡ writesApplied upd17132 cells (incrementIx cells) ⌝ }
+{
+    let x = next_ix(ix(&cells));
+    let high = cells[Memory::IXH as usize];
+    let first = write(cells, Memory::IXH, high);
+    let second = write(first, Memory::IXM, x / 16);
+    write(second, Memory::IXL, x % 16)
+}

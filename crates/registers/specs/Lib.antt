@@ -1,2 +1,0 @@
-pub mod Address
-pub mod Registers
