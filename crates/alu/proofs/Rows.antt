@@ -11,11 +11,12 @@ use lib.ListN.{getD}
 use mir.Val.{boolByte}
 use Rattle.alu.specs.Decimal.{decimalSum, decimalDifference, above19, above9, below-10}
 use Rattle.alu.specs.Difference.{differenceOf}
-use Rattle.alu.specs.Results.{nibble, bit, binaryDifference}
+use Rattle.alu.specs.Results.{nibble, binaryDifference}
+use Rattle.laws.specs.Bit.{bit}
 use Rattle.alu.specs.Rows.{rowDifference}
 use Rattle.alu.specs.declared.Outcome.{Outcome}
 use Rattle.alu.proofs.Agree.{agree}
-use Rattle.alu.proofs.Bits.{byte-bit, byte-below}
+use Rattle.laws.proofs.Bits.{byte-bit, byte-below}
 
 -- the code's two tables
 abbrev digits : List ℕ

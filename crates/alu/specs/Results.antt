@@ -8,6 +8,7 @@ use Rattle.isa.specs.declared.AluOp.{AluOp}
 use Rattle.isa.specs.declared.AluOp.the-variants.{Add, AddC, Sub, SubC, Or, And, Xor}
 use Rattle.isa.specs.declared.SkipOp.{SkipOp}
 use Rattle.isa.specs.declared.SkipOp.the-variants.{Skt, Skf, Ske, Skne, Skge, Sklt}
+use Rattle.laws.specs.Bit.{bit}
 use Rattle.alu.specs.Decimal.{decimalSum, decimalDifference}
 use Rattle.alu.specs.Difference.{Difference, plus, minus, differenceOf}
 use Rattle.alu.specs.declared.Outcome.{Outcome}
@@ -15,9 +16,6 @@ use Rattle.alu.specs.declared.Outcome.{Outcome}
 -- An operand of a sum, a difference or a rotation is a nibble: of a byte out of range its low four bits.
 abbrev pub nibble : ℕ → ℕ
 nibble x = x % 16
-
-abbrev pub bit : Bool → ℕ
-bit b = cond b 1 0
 
 -- "Binary: CY is a sum above 15 or a difference below 0; the result is the low nibble"
 unfoldable pub binarySum : ℕ → Outcome

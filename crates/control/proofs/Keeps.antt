@@ -5,11 +5,12 @@ use mathlib.Core.Bool.{Bool, true, false, cond}
 use Prim.Native.Nat.{ℕ, _^_}
 use native.Mathlib.Omega.{arith}
 use lib.Dec.{eqb, leb}
-use Rattle.isa.specs.declared.FixedOp.the-variants.{IncAr, IncIx, Movt, PushAr, PopAr, BrAr, CallAr, Ret, Retsk, Reti, Ei, Di, Nop}
-use Rattle.isa.specs.declared.Instruction.{Instruction}
-use Rattle.isa.specs.declared.Instruction.the-variants.{AluRegister, AluImmediate, Skip, Rorc, Ld, St, MovToIndirect, MovFromIndirect, MovImmediate, Peek, Poke, Get, Put, Br, Call, Stop, Halt, Fixed}
 use Rattle.memory.specs.Chip.{Chip}
-use Rattle.control.specs.Control.{Transfer, goes, denies, jump, marked, push, pop, top, next, onwards, unlessFull, unlessEmpty, inReach, controlOf, branchOf, callOf, returnOf, pushOf, popOf, tableOf, standbyOf, onwardOf}
+use Rattle.control.specs.Control.{Transfer, goes, refusedControl, jumpTo, withSkip, pushed, popped, topOf, nextOf, onwards, unlessFull, unlessEmpty, inReach, byArOf, controlOf, branchOf, callOf, returnOf, pushOf, popOf, tableOf, standbyOf, onwardOf}
+use Rattle.control.specs.declared.ArOp.{ArOp}
+use Rattle.control.specs.declared.ArOp.the-variants as code
+use Rattle.control.specs.declared.Flow.{Flow}
+use Rattle.control.specs.declared.Flow.the-variants.{Onward, Skips, Branches, Calls, Returns, ReadsTable, StandsBy, ByAr, Refused}
 use Rattle.machine.specs.declared.Control.{Control}
 
 abbrev pub Keeps : Control → Transfer → Type 0
@@ -18,7 +19,7 @@ Keeps c s = eqb (s .refusal) 0 ≡ false → s .control ≡ c
 gone : (c after : Control) → Keeps c (goes after)
 gone c after e = absurd (let z : _≡_ {A = ℕ} 0 1 = cc in omega arith)
 
-kept : (n : ℕ) (c : Control) → Keeps c (denies n c)
+kept : (n : ℕ) (c : Control) → Keeps c (refusedControl n c)
 kept n c e = refl
 
 either : (b : Bool) (c : Control) (s t : Transfer) → Keeps c s → Keeps c t → Keeps c (cond b s t)
@@ -27,43 +28,29 @@ either false c s t k l = l
 
 module _ (chip : Chip) (c : Control) where
   full : (after : Control) → Keeps c (unlessFull chip c after)
-  full after = either (leb (chip .levels) (c .levels)) c (denies 6 c) (goes after) (kept 6 c) (gone c after)
+  full after = either (leb (chip .levels) (c .levels)) c (refusedControl 6 c) (goes after) (kept 6 c) (gone c after)
 
   empty : (after : Control) → Keeps c (unlessEmpty chip c after)
-  empty after = either (eqb (c .levels) 0) c (denies 7 c) (goes after) (kept 7 c) (gone c after)
+  empty after = either (eqb (c .levels) 0) c (refusedControl 7 c) (goes after) (kept 7 c) (gone c after)
 
   reached : (to : ℕ) (s : Transfer) → Keeps c s → Keeps c (inReach chip to c s)
-  reached to s k = either (leb (2 ^ chip .pcBits) to) c (denies 5 c) s (kept 5 c) k
+  reached to s k = either (leb (2 ^ chip .pcBits) to) c (refusedControl 5 c) s (kept 5 c) k
 
-  pub keeps : (i : Instruction) (skips : Bool) (ar : ℕ) → Keeps c (controlOf chip i skips ar c)
-  unfolding controlOf branchOf callOf returnOf pushOf popOf tableOf standbyOf onwardOf
-  keeps (AluRegister op r m) skips ar = gone c _
-  keeps (AluImmediate op m n4) skips ar = gone c _
-  keeps (Skip op m n4) skips ar = gone c _
-  keeps (Rorc r) skips ar = gone c _
-  keeps (Ld r m) skips ar = gone c _
-  keeps (St m r) skips ar = gone c _
-  keeps (MovToIndirect r m) skips ar = gone c _
-  keeps (MovFromIndirect m r) skips ar = gone c _
-  keeps (MovImmediate m n4) skips ar = gone c _
-  keeps (Peek rf) skips ar = kept 4 c
-  keeps (Poke rf) skips ar = kept 4 c
-  keeps (Get p) skips ar = kept 4 c
-  keeps (Put p) skips ar = kept 4 c
-  keeps (Br addr) skips ar = reached addr (goes (jump addr c)) (gone c (jump addr c))
-  keeps (Call addr) skips ar = reached addr (callOf chip addr c) (full (jump addr (push (next chip c) c)))
-  keeps (Stop s) skips ar = gone c _
-  keeps (Halt h) skips ar = gone c _
-  keeps (Fixed IncAr) skips ar = gone c _
-  keeps (Fixed IncIx) skips ar = gone c _
-  keeps (Fixed Movt) skips ar = full (onwards chip c)
-  keeps (Fixed PushAr) skips ar = full (onwards chip (push ar c))
-  keeps (Fixed PopAr) skips ar = empty (onwards chip (pop c))
-  keeps (Fixed BrAr) skips ar = gone c _
-  keeps (Fixed CallAr) skips ar = full (jump ar (push (next chip c) c))
-  keeps (Fixed Ret) skips ar = empty (marked false (c .standby) (jump (top c) (pop c)))
-  keeps (Fixed Retsk) skips ar = empty (marked true (c .standby) (jump (top c) (pop c)))
-  keeps (Fixed Reti) skips ar = kept 4 c
-  keeps (Fixed Ei) skips ar = kept 4 c
-  keeps (Fixed Di) skips ar = kept 4 c
-  keeps (Fixed Nop) skips ar = gone c _
+  by-ar : (op : ArOp) (ar : ℕ) → Keeps c (byArOf chip op ar c)
+  unfolding callOf pushOf popOf
+  by-ar code.Br ar = gone c _
+  by-ar code.Call ar = full (jumpTo ar (pushed (nextOf chip (c .pc)) c))
+  by-ar code.Push ar = full (onwards chip (pushed ar c))
+  by-ar code.Pop ar = empty (onwards chip (popped c))
+
+  pub keeps : (f : Flow) (holds : Bool) (ar : ℕ) → Keeps c (controlOf chip f holds ar c)
+  unfolding controlOf branchOf callOf returnOf tableOf standbyOf onwardOf
+  keeps Onward holds ar = gone c _
+  keeps Skips holds ar = gone c _
+  keeps (Branches to) holds ar = reached to (goes (jumpTo to c)) (gone c (jumpTo to c))
+  keeps (Calls to) holds ar = reached to (callOf chip to c) (full (jumpTo to (pushed (nextOf chip (c .pc)) c)))
+  keeps (Returns skip) holds ar = empty (withSkip skip (jumpTo (topOf c) (popped c)))
+  keeps ReadsTable holds ar = full (onwards chip c)
+  keeps StandsBy holds ar = gone c _
+  keeps (ByAr op) holds ar = by-ar op ar
+  keeps (Refused n) holds ar = kept n c

@@ -1,2 +1,3 @@
+pub mod Flow
 pub mod Control
-pub mod Moves
+pub mod Transfers

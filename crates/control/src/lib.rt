@@ -1,27 +1,61 @@
-// What an instruction does to the PC, the stack and the marks. The control stands in two parts while the machine steps: the
-// stack where it is, and the rest in a small struct.
+// What an instruction does to the PC, the stack and the marks: a function of its flow. The control stands in two parts while the
+// machine steps: the stack where it is, and the rest in a small struct.
 mod stack;
 
 ghost use mathlib.Core.Path.{_≡_};
 ghost use mathlib.Core.List.{List};
 ghost use Prim.Native.Nat.{ℕ};
 ghost use Rattle.memory.specs.Chip.{upd17132};
-ghost use Rattle.control.specs.Control.{goes, jump, branchOf, callOf, returnOf, pushOf, popOf, tableOf, standbyOf, onwardOf, inReach, top};
-ghost use Rattle.control.specs.Moves.{transferOf, withStack};
+ghost use Rattle.control.specs.Control.{goes, nextOf, jumpTo, branchOf, callOf, returnOf, pushOf, popOf, tableOf, standbyOf, onwardOf, inReach, topOf};
+ghost use Rattle.control.specs.Transfers.{transferOf, withStack};
 use machine::Refusal;
-use stack::close;
-use stack::held;
+use stack::address_on;
+use stack::clear;
+
+// The instructions that go by AR: BR @AR, CALL @AR, PUSH AR and POP AR.
+pub enum ArOp {
+    Br,
+    Call,
+    Push,
+    Pop,
+}
+
+// Where control goes after an instruction, whatever the data.
+pub enum Flow {
+    // To the next word.
+    Onward,
+    // To the next word, or the one after it.
+    Skips,
+    Branches(u16),
+    Calls(u16),
+    // RET, and RETSK, which skips.
+    Returns(bool),
+    // A table reference, then the next word.
+    ReadsTable,
+    // To the next word, and in standby.
+    StandsBy,
+    ByAr(ArOp),
+    // The word is no instruction, or one that is not supported: the refusal's number.
+    Refused(u8),
+}
+
+// One more, and 0 after 1,023: the PC, a counter of ten bits.
+pub fn next(pc: u16) -> u16
+    ensures { λ r. ⌜ r ≡ nextOf upd17132 pc ⌝ }
+{
+    std::num::wrapping_add_u16(pc, 1) % 1024
+}
 
 // The control without its stack.
 pub struct Regs {
     pub pc: u16,
     pub levels: u8,
-    pub skip: bool,
-    pub standby: bool,
+    pub skip: u8,
+    pub standby: u8,
 }
 
 // Where control goes.
-pub enum Moved {
+pub enum Transfer {
     To(Regs),
     Refused(Refusal),
 }
@@ -31,9 +65,9 @@ pub fn onward(regs: Regs, skips: bool) -> Regs
     ensures { λ r. ⌜ ((stack : List ℕ) → goes (withStack stack r) ≡ onwardOf upd17132 skips (withStack stack regs)) ⌝ }
 {
     Regs {
-        pc: memory::next(regs.pc),
+        pc: next(regs.pc),
         levels: regs.levels,
-        skip: skips,
+        skip: skips as u8,
         standby: regs.standby,
     }
 }
@@ -43,16 +77,16 @@ pub fn stand(regs: Regs) -> Regs
     ensures { λ r. ⌜ ((stack : List ℕ) → goes (withStack stack r) ≡ standbyOf upd17132 (withStack stack regs)) ⌝ }
 {
     Regs {
-        pc: memory::next(regs.pc),
+        pc: next(regs.pc),
         levels: regs.levels,
         skip: regs.skip,
-        standby: true,
+        standby: 1,
     }
 }
 
 // BR @AR, and BR once its target is known to be in reach.
 pub fn jump(regs: Regs, to: u16) -> Regs
-    ensures { λ r. ⌜ ((stack : List ℕ) → withStack stack r ≡ jump to (withStack stack regs)) ⌝ }
+    ensures { λ r. ⌜ ((stack : List ℕ) → withStack stack r ≡ jumpTo to (withStack stack regs)) ⌝ }
 {
     Regs {
         pc: to,
@@ -63,25 +97,25 @@ pub fn jump(regs: Regs, to: u16) -> Regs
 }
 
 // BR.
-pub fn branch(regs: Regs, to: u16) -> Moved
+pub fn branch(regs: Regs, to: u16) -> Transfer
     ensures { λ r. ⌜ ((stack : List ℕ) → transferOf stack regs r ≡ branchOf upd17132 to (withStack stack regs)) ⌝ }
 {
     if 1024 <= to {
-        return Moved::Refused(Refusal::BadTarget);
+        return Transfer::Refused(Refusal::BadTarget);
     }
-    Moved::To(jump(regs, to))
+    Transfer::To(jump(regs, to))
 }
 
 // CALL @AR, and CALL once its target is known to be in reach.
-pub fn call(stack: &mut [u16; 5], regs: Regs, target: u16) -> Moved
+pub fn call(stack: &mut [u16; 5], regs: Regs, target: u16) -> Transfer
     ensures { λ r. ⌜ transferOf (now (stack .exit)) regs r ≡ callOf upd17132 target (withStack (now (stack .entry)) regs) ⌝ }
 {
     let levels = regs.levels;
     if 5 <= levels {
-        return Moved::Refused(Refusal::StackFull);
+        return Transfer::Refused(Refusal::StackFull);
     }
-    stack[levels as usize] = memory::next(regs.pc);
-    Moved::To(Regs {
+    stack[levels as usize] = next(regs.pc);
+    Transfer::To(Regs {
         pc: target,
         levels: levels + 1,
         skip: regs.skip,
@@ -90,45 +124,45 @@ pub fn call(stack: &mut [u16; 5], regs: Regs, target: u16) -> Moved
 }
 
 // CALL: the target is tried before the stack.
-pub fn call_in_reach(stack: &mut [u16; 5], regs: Regs, target: u16) -> Moved
+pub fn call_in_reach(stack: &mut [u16; 5], regs: Regs, target: u16) -> Transfer
     ensures { λ r. ⌜ transferOf (now (stack .exit)) regs r ≡ inReach upd17132 target (withStack (now (stack .entry)) regs) (callOf upd17132 target (withStack (now (stack .entry)) regs)) ⌝ }
 {
     if 1024 <= target {
-        return Moved::Refused(Refusal::BadTarget);
+        return Transfer::Refused(Refusal::BadTarget);
     }
     call(stack, regs, target)
 }
 
 // RET, and RETSK, which sets the skip mark.
-pub fn ret(stack: &mut [u16; 5], regs: Regs, skip: bool) -> Moved
+pub fn ret(stack: &mut [u16; 5], regs: Regs, skip: bool) -> Transfer
     ensures { λ r. ⌜ transferOf (now (stack .exit)) regs r ≡ returnOf upd17132 skip (withStack (now (stack .entry)) regs) ⌝ }
 {
     let levels = regs.levels;
     if levels == 0 {
-        return Moved::Refused(Refusal::StackEmpty);
+        return Transfer::Refused(Refusal::StackEmpty);
     }
     let below = levels - 1;
-    let back = held(&*stack, below);
-    close(stack, below);
-    Moved::To(Regs {
+    let back = address_on(&*stack, below);
+    clear(stack, below);
+    Transfer::To(Regs {
         pc: back,
         levels: below,
-        skip: skip,
+        skip: skip as u8,
         standby: regs.standby,
     })
 }
 
 // PUSH AR.
-pub fn push(stack: &mut [u16; 5], regs: Regs, ar: u16) -> Moved
+pub fn push(stack: &mut [u16; 5], regs: Regs, ar: u16) -> Transfer
     ensures { λ r. ⌜ transferOf (now (stack .exit)) regs r ≡ pushOf upd17132 ar (withStack (now (stack .entry)) regs) ⌝ }
 {
     let levels = regs.levels;
     if 5 <= levels {
-        return Moved::Refused(Refusal::StackFull);
+        return Transfer::Refused(Refusal::StackFull);
     }
     stack[levels as usize] = ar;
-    Moved::To(Regs {
-        pc: memory::next(regs.pc),
+    Transfer::To(Regs {
+        pc: next(regs.pc),
         levels: levels + 1,
         skip: regs.skip,
         standby: regs.standby,
@@ -137,27 +171,27 @@ pub fn push(stack: &mut [u16; 5], regs: Regs, ar: u16) -> Moved
 
 // The address on the highest open level; with none open the one on the lowest place, and past the fifth 0.
 pub fn top(stack: &[u16; 5], regs: Regs) -> u16
-    ensures { λ r. ⌜ r ≡ top (withStack (now (stack .entry)) regs) ⌝ }
+    ensures { λ r. ⌜ r ≡ topOf (withStack (now (stack .entry)) regs) ⌝ }
 {
     let levels = regs.levels;
     if levels == 0 {
-        return held(stack, 0);
+        return address_on(stack, 0);
     }
-    held(stack, levels - 1)
+    address_on(stack, levels - 1)
 }
 
 // POP AR, whose value the caller has read.
-pub fn pop(stack: &mut [u16; 5], regs: Regs) -> Moved
+pub fn pop(stack: &mut [u16; 5], regs: Regs) -> Transfer
     ensures { λ r. ⌜ transferOf (now (stack .exit)) regs r ≡ popOf upd17132 (withStack (now (stack .entry)) regs) ⌝ }
 {
     let levels = regs.levels;
     if levels == 0 {
-        return Moved::Refused(Refusal::StackEmpty);
+        return Transfer::Refused(Refusal::StackEmpty);
     }
     let top = levels - 1;
-    close(stack, top);
-    Moved::To(Regs {
-        pc: memory::next(regs.pc),
+    clear(stack, top);
+    Transfer::To(Regs {
+        pc: next(regs.pc),
         levels: top,
         skip: regs.skip,
         standby: regs.standby,
@@ -165,14 +199,14 @@ pub fn pop(stack: &mut [u16; 5], regs: Regs) -> Moved
 }
 
 // MOVT: one free level is needed, and given back at once.
-pub fn table(regs: Regs) -> Moved
+pub fn table(regs: Regs) -> Transfer
     ensures { λ r. ⌜ ((stack : List ℕ) → transferOf stack regs r ≡ tableOf upd17132 (withStack stack regs)) ⌝ }
 {
     if 5 <= regs.levels {
-        return Moved::Refused(Refusal::StackFull);
+        return Transfer::Refused(Refusal::StackFull);
     }
-    Moved::To(Regs {
-        pc: memory::next(regs.pc),
+    Transfer::To(Regs {
+        pc: next(regs.pc),
         levels: regs.levels,
         skip: regs.skip,
         standby: regs.standby,

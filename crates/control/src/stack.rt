@@ -4,7 +4,7 @@ ghost use Prim.Native.Nat.{_≤_};
 ghost use lib.ListN.{getD, set};
 
 // Past the five places, of a stack by value: the length of an array behind a reference is not known.
-fn nothing(stack: [u16; 5], place: u8) -> u16
+fn no_address(stack: [u16; 5], place: u8) -> u16
     ensures { λ r. ⌜ (5 ≤ place → r ≡ getD stack place 0) ⌝ }
 {
     0
@@ -17,17 +17,17 @@ fn unchanged(stack: [u16; 5], place: u8) -> [u16; 5]
 }
 
 // The address on a place.
-pub fn held(stack: &[u16; 5], place: u8) -> u16
+pub fn address_on(stack: &[u16; 5], place: u8) -> u16
     ensures { λ r. ⌜ r ≡ getD (now (stack .entry)) place 0 ⌝ }
 {
     if 5 <= place {
-        return nothing(*stack, place);
+        return no_address(*stack, place);
     }
     stack[place as usize]
 }
 
 // The place 0 again.
-pub fn close(stack: &mut [u16; 5], place: u8)
+pub fn clear(stack: &mut [u16; 5], place: u8)
     ensures { λ _. ⌜ now (stack .exit) ≡ set (now (stack .entry)) place 0 ⌝ }
 {
     if 5 <= place {

@@ -3,3 +3,4 @@ pub mod Arms
 pub mod First
 pub mod Wrap
 pub mod Lists
+pub mod Bits

@@ -1,3 +1,4 @@
 pub mod Every
 pub mod First
 pub mod Wrap
+pub mod Bit

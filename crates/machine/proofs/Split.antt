@@ -14,7 +14,7 @@ use Rattle.memory.proofs.Staying.{whole, kept-nibble, nibble-kept}
 use Rattle.memory.specs.Chip.{upd17132}
 use Rattle.memory.specs.Names.{P0E, AR3, AR2, BANK, IXH, IXM, RPH}
 use Rattle.memory.specs.Range.{cellInRange, cellsInRange}
-use Rattle.machine.specs.Inside.{fixedInRange}
+use Rattle.machine.specs.FixedBits.{fixedInRange}
 use Rattle.machine.specs.Ranges.{isNibble}
 
 -- two tests that pass together

@@ -1,4 +1,4 @@
 pub mod Parts
 pub mod Ranges
 pub mod Refusals
-pub mod Inside
+pub mod FixedBits

@@ -26,18 +26,22 @@ unfoldable pub controlInRange : Chip → Control → Bool
 controlInRange chip c =
     ltb (c .pc) (2 ^ chip .pcBits) && (leb (c .levels) (chip .levels) && every (levelInRange chip c) places)
 
+-- the marks are 0 or 1
+unfoldable pub marksInRange : Control → Bool
+marksInRange c = leb (c .skip) 1 && leb (c .standby) 1
+
 unfoldable pub machineInRange : Chip → Machine → Bool
-machineInRange chip m = cellsInRange chip (cellsOf m) && controlInRange chip (m .control)
+machineInRange chip m = cellsInRange chip (cellsOf m) && (controlInRange chip (m .control) && marksInRange (m .control))
 
 abbrev pub isNibble : List ℕ → ℕ → Bool
 isNibble xs k = ltb (getD xs k 0) 16
 
-abbrev pub nibbles : List ℕ → Bool
-nibbles xs = every (isNibble xs) 5
+abbrev pub fiveNibbles : List ℕ → Bool
+fiveNibbles xs = every (isNibble xs) 5
 
 -- five pins, five directions and a release bit
 unfoldable pub inputInRange : Input → Bool
-inputInRange i = nibbles (i .pins) && (nibbles (i .directions) && ltb (i .release) 2)
+inputInRange i = fiveNibbles (i .pins) && (fiveNibbles (i .directions) && ltb (i .release) 2)
 
 -- 1 to so many words
 unfoldable pub romInRange : Chip → List ℕ → Bool

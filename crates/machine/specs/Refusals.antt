@@ -2,14 +2,14 @@
 -- Assumes nothing.
 use Prim.Native.Nat.{ℕ}
 use Rattle.machine.specs.declared.Refusal.{Refusal}
-use Rattle.machine.specs.declared.Refusal.the-variants.{OutOfRange, PastRom, NoInstruction, NotInBase, BadTarget, StackFull, StackEmpty, PastTable}
+use Rattle.machine.specs.declared.Refusal.the-variants.{OutOfRange, PastRom, NoInstruction, Unsupported, BadTarget, StackFull, StackEmpty, PastTable}
 
 -- the table of refusals, 1 to 8
 abbrev pub numberOf : Refusal → ℕ
 numberOf OutOfRange = 1
 numberOf PastRom = 2
 numberOf NoInstruction = 3
-numberOf NotInBase = 4
+numberOf Unsupported = 4
 numberOf BadTarget = 5
 numberOf StackFull = 6
 numberOf StackEmpty = 7

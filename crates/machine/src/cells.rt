@@ -4,7 +4,7 @@ ghost use Prim.Native.Nat.{_<_};
 ghost use Rattle.laws.specs.Every.{every};
 ghost use Rattle.memory.specs.Chip.{upd17132};
 ghost use Rattle.memory.specs.Range.{cellInRange, cellsInRange};
-ghost use Rattle.machine.specs.Inside.{fixedInRange};
+ghost use Rattle.machine.specs.FixedBits.{fixedInRange};
 ghost use Rattle.machine.specs.Ranges.{isNibble};
 use memory::Memory;
 

@@ -3,15 +3,15 @@ ghost use mathlib.Core.Path.{_≡_};
 ghost use mathlib.Core.Bool.{cond};
 ghost use lib.Dec.{eqb, ltb};
 ghost use Rattle.memory.specs.Chip.{upd17132};
-ghost use Rattle.machine.specs.Ranges.{nibbles, controlInRange, machineInRange, inputInRange, romInRange, allInRange};
+ghost use Rattle.machine.specs.Ranges.{fiveNibbles, controlInRange, marksInRange, machineInRange, inputInRange, romInRange, allInRange};
 use crate::Control;
 use crate::Input;
 use crate::Machine;
 use crate::cells;
 
 // Five nibbles.
-fn nibbles(xs: [u8; 5]) -> bool
-    ensures { λ r. ⌜ r ≡ nibbles xs ⌝ }
+fn are_nibbles(xs: [u8; 5]) -> bool
+    ensures { λ r. ⌜ r ≡ fiveNibbles xs ⌝ }
 {
     if 16 <= xs[4] {
         return false;
@@ -64,6 +64,16 @@ fn control(c: Control) -> bool
     level(0, levels, stack[0])
 }
 
+// The marks are 0 or 1.
+fn marks(c: Control) -> bool
+    ensures { λ r. ⌜ r ≡ marksInRange c ⌝ }
+{
+    if 1 < c.skip {
+        return false;
+    }
+    c.standby <= 1
+}
+
 fn machine(m: Machine) -> bool
     ensures { λ r. ⌜ r ≡ machineInRange upd17132 m ⌝ }
 {
@@ -72,18 +82,22 @@ fn machine(m: Machine) -> bool
     if !cells::in_range(&cells) {
         return false;
     }
-    control(m.control)
+    let part = m.control;
+    if !control(part) {
+        return false;
+    }
+    marks(part)
 }
 
 fn input(i: Input) -> bool
     ensures { λ r. ⌜ r ≡ inputInRange i ⌝ }
 {
     let pins = i.pins;
-    if !nibbles(pins) {
+    if !are_nibbles(pins) {
         return false;
     }
     let directions = i.directions;
-    if !nibbles(directions) {
+    if !are_nibbles(directions) {
         return false;
     }
     i.release < 2

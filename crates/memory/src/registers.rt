@@ -6,9 +6,8 @@ ghost use Rattle.memory.specs.Chip.{upd17132};
 ghost use Rattle.memory.specs.Cells.{number};
 ghost use Rattle.memory.specs.Registers.{windowOf, arOf, bufferOf, numberWrites, arWrites, bufferWrites, incrementAr, incrementIx};
 ghost use Rattle.memory.specs.Write.{writesApplied};
-use crate::addressing::ix;
 use crate::Memory;
-
+use crate::addressing::ix;
 use crate::cells::write;
 
 // One more, and 0 after 1,023: AR, a counter of ten bits.

@@ -1,7 +1,7 @@
 use native.Mathlib.Omega.{arith}
 use borrow.Author.Needs.{needs}
 use Rattle.alu.specs.Results.{addOf, binarySum}
-use Rattle.alu.proofs.Bits.{byte-bit, byte-below}
+use Rattle.laws.proofs.Bits.{byte-bit, byte-below}
 use Rattle.alu.proofs.add.Statement.{statement}
 use Rattle.alu.proofs.add.Tie as tie
 

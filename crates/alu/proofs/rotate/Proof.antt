@@ -1,7 +1,7 @@
 use native.Mathlib.Omega.{arith}
 use borrow.Author.Needs.{needs}
 use Rattle.alu.specs.Results.{rotateOf}
-use Rattle.alu.proofs.Bits.{byte-bit, byte-below}
+use Rattle.laws.proofs.Bits.{byte-bit, byte-below}
 use Rattle.alu.proofs.rotate.Statement.{statement}
 use Rattle.alu.proofs.rotate.Tie as tie
 

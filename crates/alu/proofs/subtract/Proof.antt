@@ -1,7 +1,7 @@
 use native.Mathlib.Omega.{arith}
 use borrow.Author.Needs.{needs}
 use Rattle.alu.specs.Results.{subtractOf}
-use Rattle.alu.proofs.Bits.{byte-below}
+use Rattle.laws.proofs.Bits.{byte-below}
 use Rattle.alu.proofs.Rows.{binary-difference, operands-row}
 use Rattle.alu.proofs.subtract.Statement.{statement}
 use Rattle.alu.proofs.subtract.Tie as tie

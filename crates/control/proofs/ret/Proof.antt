@@ -1,3 +1,4 @@
+use Rattle.laws.proofs.Bits.{byte-bit}
 use borrow.Author.Tests.{eq-eqb, ne-eqb}
 use Rattle.control.specs.Control.{returnOf}
 use borrow.Author.Needs.{needs}
@@ -11,15 +12,18 @@ returns c = simp (eq-eqb _ _ (c .if1 .taken))
 sub-below : tie.Need-sub-below
 sub-below c = search needs
 
-held-requires : tie.Need-held-requires
-held-requires c κs = search needs
+address-on-requires : tie.Need-address-on-requires
+address-on-requires c κs = search needs
 
-close-requires : tie.Need-close-requires
-close-requires c κs = search needs
+clear-requires : tie.Need-clear-requires
+clear-requires c κs = search needs
+
+cast-t12 : tie.Need-cast-t12
+cast-t12 c = search needs
 
 returns-2 : tie.Need-returns-2
 unfolding returnOf
-returns-2 c = simp (ne-eqb _ _ (c .before .before .before .before .if1 .left), c .close .ensures, c .before .before .held .ensures)
+returns-2 c = simp (ne-eqb _ _ (c .before .before .before .before .if1 .left), c .clear .ensures, c .before .before .address-on .ensures, byte-bit)
 
 pub ret-spec : {M : Type 1} → statement M
-ret-spec = tie.close (tie.spec returns sub-below held-requires close-requires returns-2)
+ret-spec = tie.close (tie.spec returns sub-below address-on-requires clear-requires cast-t12 returns-2)

@@ -3,7 +3,7 @@ use mathlib.Core.Path.{_∙_, ap, sym}
 use mathlib.Core.Bool.{Bool, _&&_}
 use borrow.Author.Needs.{needs}
 use Rattle.memory.specs.Chip.{upd17132}
-use Rattle.machine.specs.Inside.{fixedInRange}
+use Rattle.machine.specs.FixedBits.{fixedInRange}
 use Rattle.machine.proofs.Split.{split}
 use Rattle.machine.proofs.cells.in_range.Statement.{statement}
 use Rattle.machine.proofs.cells.in_range.Tie as tie

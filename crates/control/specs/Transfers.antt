@@ -4,9 +4,9 @@ use mathlib.Core.List.{List}
 use Prim.Native.Nat.{ℕ}
 use Rattle.machine.specs.Refusals.{numberOf}
 use Rattle.machine.specs.declared.Control.{Control}
-use Rattle.control.specs.Control.{Transfer, goes, denies}
-use Rattle.control.specs.declared.Moved.{Moved}
-use Rattle.control.specs.declared.Moved.the-variants.{To, Refused}
+use Rattle.control.specs.Control.{Transfer, goes, refusedControl}
+use Rattle.control.specs.declared.Transfer as code
+use Rattle.control.specs.declared.Transfer.the-variants.{To, Refused}
 use Rattle.control.specs.declared.Regs.{Regs}
 
 -- the control whose stack stands apart from it, as the code keeps it while it steps
@@ -14,6 +14,6 @@ abbrev pub withStack : List ℕ → Regs → Control
 withStack stack r = record { pc = r .pc; stack = stack; levels = r .levels; skip = r .skip; standby = r .standby }
 
 -- the stack after, the registers before, and the answer
-abbrev pub transferOf : List ℕ → Regs → Moved → Transfer
+abbrev pub transferOf : List ℕ → Regs → code.Transfer → Transfer
 transferOf stack before (To r) = goes (withStack stack r)
-transferOf stack before (Refused q) = denies (numberOf q) (withStack stack before)
+transferOf stack before (Refused q) = refusedControl (numberOf q) (withStack stack before)

@@ -1,4 +1,4 @@
--- What ties the private functions to the definitions.
+-- The cells that have bits that are always 0: the range test of the cells tries these by name.
 -- Assumes nothing.
 use mathlib.Core.Bool.{Bool, _&&_}
 use mathlib.Core.List.{List}

@@ -1,8 +1,8 @@
 use mathlib.Core.Bool.{and-true}
 use borrow.Author.Tests.{lt-ltb, le-ltb}
 use borrow.Author.Needs.{needs}
-use Rattle.machine.proofs.ranges.nibbles.Statement.{statement}
-use Rattle.machine.proofs.ranges.nibbles.Tie as tie
+use Rattle.machine.proofs.ranges.are_nibbles.Statement.{statement}
+use Rattle.machine.proofs.ranges.are_nibbles.Tie as tie
 
 array-read-if1 : tie.Need-array-read-if1
 array-read-if1 c = search needs
@@ -34,8 +34,8 @@ array-read-result c = search needs
 returns-5 : tie.Need-returns-5
 returns-5 c = rw (lt-ltb _ _ (c .before .before .before .if1 .left), lt-ltb _ _ (c .before .before .if2 .left), lt-ltb _ _ (c .before .if3 .left), lt-ltb _ _ (c .if4 .left), and-true)
 
-pub nibbles-spec : {M : Type 1} → statement M
-nibbles-spec =
+pub are-nibbles-spec : {M : Type 1} → statement M
+are-nibbles-spec =
     tie.close
     (tie.spec
     array-read-if1

@@ -1,11 +1,11 @@
--- CY as a number: the code's is the definition's, and at most 1.
+-- A truth value as a byte: the code's cast is the definition's number, at most 1.
 -- Assumes nothing.
 use mathlib.Core.Path.{_≡_, refl}
 use mathlib.Core.Bool.{Bool, true, false}
 use Prim.Native.Nat.{_≤_}
 use mir.Val.{boolByte}
 use lib.Dec.{lit≤}
-use Rattle.alu.specs.Results.{bit}
+use Rattle.laws.specs.Bit.{bit}
 
 pub byte-bit : (b : Bool) → boolByte b ≡ bit b
 byte-bit true = refl

@@ -1,6 +1,6 @@
 use borrow.Author.Needs.{needs}
-use Rattle.control.proofs.stack.close.Statement.{statement}
-use Rattle.control.proofs.stack.close.Tie as tie
+use Rattle.control.proofs.stack.clear.Statement.{statement}
+use Rattle.control.proofs.stack.clear.Tie as tie
 
 unchanged-requires : tie.Need-unchanged-requires
 unchanged-requires c κs = search needs
@@ -17,6 +17,6 @@ element-write-stack c = search needs
 returns-2 : tie.Need-returns-2
 returns-2 c = search needs
 
-pub close-spec : {M : Type 1} → statement M
-close-spec =
+pub clear-spec : {M : Type 1} → statement M
+clear-spec =
     tie.close (tie.spec unchanged-requires returns mul-stack element-write-stack returns-2)

@@ -1,0 +1,7 @@
+-- A truth value as a number.
+-- Assumes nothing.
+use mathlib.Core.Bool.{Bool, cond}
+use Prim.Native.Nat.{ℕ}
+
+abbrev pub bit : Bool → ℕ
+bit b = cond b 1 0
