@@ -1,4 +1,3 @@
-pub mod Entries
 pub mod Ruled
 pub mod Paths
 pub mod Steps

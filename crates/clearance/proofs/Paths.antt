@@ -14,23 +14,23 @@ use Rattle.memory.specs.Chip.{Chip}
 use Rattle.control.specs.Control.{Transfer, goes, jump, marked, top, inReach, branchOf, callOf, returnOf, tableOf, standbyOf, onwardOf}
 use Rattle.machine.specs.Ranges.{places}
 use Rattle.machine.specs.declared.Control.{Control}
-use Rattle.cpu.proofs.Inside.{both}
+use Rattle.laws.proofs.Booleans.{both}
 use Rattle.flow.specs.FlowLaw.{flowControl}
 use Rattle.flow.specs.declared.Flow.{Flow}
 use Rattle.flow.specs.declared.Flow.the-variants.{Onward, Skips, Branches, Calls, Returns, ReturnsSkip, ReadsTable, StandsBy, Barred}
 use Rattle.clearance.specs.Calls.{Tally, counted}
-use Rattle.clearance.specs.Entry.{holds, raised, atMost, atLeast}
-use Rattle.clearance.specs.Rules.{Ask, entryAt, flowAt, next, allMet, skipReturns, rule3, rule4, asks5, rule5, rule6, EveryRule}
-use Rattle.clearance.proofs.Entries.{raised-holds, most, least}
+use Rattle.sheet.specs.Entry.{entryAt, holds, raised, atMost, atLeast}
+use Rattle.clearance.specs.Rules.{Ask, flowAt, next, allMet, skipReturns, rule3, rule4, asks5, rule5, rule6, EveryRule}
+use Rattle.sheet.proofs.Entries.{raised-holds, at-most-holds, at-least-holds}
 use Rattle.clearance.proofs.Ruled.{Stands, table-free, asked, first-met, rest-met, found}
 
-module _ (chip : Chip) (small : chip .levels ≤ places) (some : 0 < chip .levels) (rom depths : List ℕ) (short : length rom ≤ 2 ^ chip .pcBits)
-    (every : EveryRule chip rom depths) where
+module _ (chip : Chip) (small : chip .levels ≤ places) (some : 0 < chip .levels) (rom sheet : List ℕ) (short : length rom ≤ 2 ^ chip .pcBits)
+    (every : EveryRule chip rom sheet) where
   abbrev At : ℕ → ℕ → Type 0
-  At w d = Stands chip rom depths every w d
+  At w d = Stands chip rom sheet every w d
 
   abbrev E : ℕ → ℕ
-  E w = entryAt depths w
+  E w = entryAt sheet w
 
   abbrev F : ℕ → Flow
   F w = flowAt rom w
@@ -81,7 +81,7 @@ module _ (chip : Chip) (small : chip .levels ≤ places) (some : 0 < chip .level
     near to h = lt-leb (2 ^ chip .pcBits) to (omega arith)
 
     free : atMost (chip .levels - 1) e ≡ true → leb (chip .levels) (c .levels) ≡ false
-    free a = lt-leb (chip .levels) (c .levels) (omega (arith, most chip (chip .levels - 1) e (c .levels) a (p .here .level)))
+    free a = lt-leb (chip .levels) (c .levels) (omega (arith, at-most-holds (chip .levels) (chip .levels - 1) e (c .levels) a (p .here .level)))
 
     ordinary : (skip : Bool) → At (N pc) (c .levels) → (skip ≡ true → At (N (N pc)) (c .levels)) → Kept (onwardOf chip skip c) t
     unfolding onwardOf
@@ -105,7 +105,7 @@ module _ (chip : Chip) (small : chip .levels ≤ places) (some : 0 < chip .level
         → Kept (inReach chip to c (callOf chip to c)) (counted (Calls to) t)
     unfolding callOf
     calls to m a b =
-        let l : c .levels ≤ chip .levels - 1 = most chip (chip .levels - 1) e (c .levels) m (p .here .level) in
+        let l : c .levels ≤ chip .levels - 1 = at-most-holds (chip .levels) (chip .levels - 1) e (c .levels) m (p .here .level) in
         let i : c .levels < length (c .stack) = rw (p .places) (omega arith) in
         rw (near to (a .inside), free m)
         (record {
@@ -127,7 +127,7 @@ module _ (chip : Chip) (small : chip .levels ≤ places) (some : 0 < chip .level
         → (skip ≡ true → F pc ≡ ReturnsSkip) → Kept (returnOf chip skip c) t'
     unfolding returnOf
     returned skip f t' ec er m s =
-        let l : 1 ≤ c .levels = least chip 1 e (c .levels) m (p .here .level) in
+        let l : 1 ≤ c .levels = at-least-holds (chip .levels) 1 e (c .levels) m (p .here .level) in
         let back : Back (top c) (c .levels - 1) = p .stacked (c .levels - 1) (omega arith) in
         let up : c .levels ≡ suc (c .levels - 1) = omega arith in
         rw (ne-eqb (c .levels) 0 (λ (x : c .levels ≡ 0). omega arith))
@@ -150,40 +150,40 @@ module _ (chip : Chip) (small : chip .levels ≤ places) (some : 0 < chip .level
     unfolding standbyOf
     waited a = record { unrefused = refl; path = moved (N pc) (c .skip) true a unmarked }
 
-    answered : (a : Ask) (rest : List Ask) → allMet chip rom depths (a ∷ rest) ≡ true → holds chip (a .entry) (c .levels) ≡ true → At (a .word) (c .levels)
-    answered a rest m h = asked chip rom depths every a (c .levels) (first-met chip rom depths every a rest m) h
+    answered : (a : Ask) (rest : List Ask) → allMet chip rom sheet (a ∷ rest) ≡ true → holds (chip .levels) (a .entry) (c .levels) ≡ true → At (a .word) (c .levels)
+    answered a rest m h = asked chip rom sheet every a (c .levels) (first-met chip rom sheet every a rest m) h
 
     -- the second ask of a CALL, where a RETSK returns above it
-    after-call : (to w : ℕ) (b : Bool) → skipReturns chip rom depths (raised e) ≡ b → b ≡ true
-        → allMet chip rom depths (cond b (ask (N (N pc)) e ∷ []) []) ≡ true → At (N (N pc)) (c .levels)
+    after-call : (to w : ℕ) (b : Bool) → skipReturns chip rom sheet (raised e) ≡ b → b ≡ true
+        → allMet chip rom sheet (cond b (ask (N (N pc)) e ∷ []) []) ≡ true → At (N (N pc)) (c .levels)
     after-call to w true q s m = answered (ask (N (N pc)) e) [] m (p .here .level)
     after-call to w false q s m = absurd (let z : _≡_ {A = ℕ} 0 1 = cc in omega arith)
 
-    pub follows : (f : Flow) → F pc ≡ f → (b : Bool) → rule3 chip rom f e ≡ true → rule4 chip rom depths pc f e ≡ true
-        → rule5 chip rom depths pc f e ≡ true → rule6 f e ≡ true → Kept (flowControl chip f b c) (counted f t)
+    pub follows : (f : Flow) → F pc ≡ f → (b : Bool) → rule3 chip rom f e ≡ true → rule4 chip rom sheet pc f e ≡ true
+        → rule5 chip rom sheet pc f e ≡ true → rule6 f e ≡ true → Kept (flowControl chip f b c) (counted f t)
     unfolding flowControl
     follows Onward q b r3 r4 r5 r6 =
         ordinary false (answered (ask (N pc) e) [] r4 (p .here .level)) (λ (x : false ≡ true). absurd (let z : _≡_ {A = ℕ} 0 1 = cc in omega arith))
     follows Skips q b r3 r4 r5 r6 =
         ordinary b (answered (ask (N pc) e) (ask (N (N pc)) e ∷ []) r4 (p .here .level))
-        (λ _. answered (ask (N (N pc)) e) [] (rest-met chip rom depths every (ask (N pc) e) (ask (N (N pc)) e ∷ []) r4) (p .here .level))
+        (λ _. answered (ask (N (N pc)) e) [] (rest-met chip rom sheet every (ask (N pc) e) (ask (N (N pc)) e ∷ []) r4) (p .here .level))
     follows (Branches to) q b r3 r4 r5 r6 = branches to (answered (ask to e) [] r4 (p .here .level))
     follows (Calls to) q b r3 r4 r5 r6 =
-        let m = both (atMost (chip .levels - 1) e) (allMet chip rom depths (asks5 chip rom depths pc to e)) r5 in
-        let second = cond (skipReturns chip rom depths (raised e)) (ask (N (N pc)) e ∷ []) [] in
-        let up = raised-holds chip e (c .levels) some (m .0) (p .here .level) in
+        let m = both (atMost (chip .levels - 1) e) (allMet chip rom sheet (asks5 chip rom sheet pc to e)) r5 in
+        let second = cond (skipReturns chip rom sheet (raised e)) (ask (N (N pc)) e ∷ []) [] in
+        let up = raised-holds (chip .levels) some e (m .0) (c .levels) (p .here .level) in
         calls to (m .0)
-        (asked chip rom depths every (ask to (raised e)) (suc (c .levels)) (first-met chip rom depths every (ask to (raised e)) second (m .1)) up)
+        (asked chip rom sheet every (ask to (raised e)) (suc (c .levels)) (first-met chip rom sheet every (ask to (raised e)) second (m .1)) up)
         (record {
           plain = answered (ask (N pc) e) [] r4 (p .here .level);
           skipped = λ w s f.
-              after-call to w (skipReturns chip rom depths (raised e)) refl (found chip rom depths every w (suc (c .levels)) (raised e) s f up)
-              (rest-met chip rom depths every (ask to (raised e)) second (m .1));
+              after-call to w (skipReturns chip rom sheet (raised e)) refl (found chip rom sheet every w (suc (c .levels)) (raised e) s f up)
+              (rest-met chip rom sheet every (ask to (raised e)) second (m .1));
         })
     follows Returns q b r3 r4 r5 r6 =
         returned false Returns (counted Returns t) refl refl r6 (λ (x : false ≡ true). absurd (let z : _≡_ {A = ℕ} 0 1 = cc in omega arith))
     follows ReturnsSkip q b r3 r4 r5 r6 = returned true ReturnsSkip (counted ReturnsSkip t) refl refl r6 (λ x. q)
     follows ReadsTable q b r3 r4 r5 r6 =
-        tabled (table-free chip rom depths every e r3) (answered (ask (N pc) e) [] r4 (p .here .level))
+        tabled (table-free chip rom sheet every e r3) (answered (ask (N pc) e) [] r4 (p .here .level))
     follows StandsBy q b r3 r4 r5 r6 = waited (answered (ask (N pc) e) [] r4 (p .here .level))
     follows Barred q b r3 r4 r5 r6 = absurd (let z : _≡_ {A = ℕ} 0 1 = cc in omega arith)

@@ -25,12 +25,13 @@ use Rattle.cpu.specs.Step.{stepOf}
 use Rattle.machine.specs.declared.Input.{Input}
 use Rattle.machine.specs.declared.Machine.{Machine}
 use Rattle.cpu.proofs.ArFits.{ar-fits}
-use Rattle.cpu.proofs.Inside.{both, all-parts}
+use Rattle.cpu.proofs.Inside.{all-parts}
+use Rattle.laws.proofs.Booleans.{both}
 use Rattle.cpu.proofs.Ranged.{ArFits, steps}
 use Rattle.cpu.proofs.Turns.{all-of}
 use Rattle.clearance.specs.Calls.{Call, step, run, stepInPlace, runInPlace, Tally, noCalls, stepTally, runTally, leftBy, tallyAfter}
-use Rattle.clearance.specs.Entry.{holds}
-use Rattle.clearance.specs.Rules.{EveryRule, entryAt, flowAt, rule1, ruleOf}
+use Rattle.sheet.specs.Entry.{entryAt, holds}
+use Rattle.clearance.specs.Rules.{EveryRule, flowAt, rule1, ruleOf}
 use Rattle.clearance.specs.Safe.{Moment, Allowed, Within, During, Good, Safe}
 use Rattle.clearance.proofs.Paths.{OnPath}
 use Rattle.clearance.proofs.Prefixes.{ifGoesOn, tallyFrom, upTo, bounded, prefix, tallied}
@@ -38,13 +39,13 @@ use Rattle.clearance.proofs.Steps.{Fair, stepped}
 
 module _ (chip : Chip) (small : chip .levels ≤ places) (some : 0 < chip .levels) (addresses : ArFits chip)
     (fits : (cells : List ℕ) → cellsInRange chip cells ≡ true → arOf cells < 2 ^ 10)
-    (rom depths : List ℕ) (whole : romInRange chip rom ≡ true) (short : length rom ≤ 2 ^ chip .pcBits) (every : EveryRule chip rom depths) where
+    (rom sheet : List ℕ) (whole : romInRange chip rom ≡ true) (short : length rom ≤ 2 ^ chip .pcBits) (every : EveryRule chip rom sheet) where
   -- what holds of the record between any two steps
   pub record Inv (m : Machine) (t : Tally) : Type 0 where
     pub ranged : machineInRange chip m ≡ true
-    pub path : OnPath chip small some rom depths short every (m .control) t
+    pub path : OnPath chip small some rom sheet short every (m .control) t
 
-  moment : (m : Machine) (t : Tally) → Inv m t → Moment chip rom depths m t
+  moment : (m : Machine) (t : Tally) → Inv m t → Moment chip rom sheet m t
   moment m t v = record { inside = v .path .here .inside; opened = v .path .opened; level = v .path .here .level }
 
   module _ (i : Input) where
@@ -53,9 +54,9 @@ module _ (chip : Chip) (small : chip .levels ≤ places) (some : 0 < chip .level
 
     -- a step with inputs in range
     fair : (m : Machine) (t : Tally) → Inv m t → inputInRange i ≡ true
-        → Fair chip small some fits rom depths short every i (m .control .skip) (flowAt rom (m .control .pc)) t (S m)
+        → Fair chip small some fits rom sheet short every i (m .control .skip) (flowAt rom (m .control .pc)) t (S m)
     fair m t v h =
-        stepped chip small some fits rom depths short every i m t (v .ranged) (v .path) (all-of chip rom i m (v .ranged) h whole)
+        stepped chip small some fits rom sheet short every i m t (v .ranged) (v .path) (all-of chip rom i m (v .ranged) h whole)
 
     goes-on : (m : Machine) (t : Tally) → Inv m t → inputInRange i ≡ true → Inv ((S m) .machine) (stepTally chip rom i m t)
     goes-on m t v h = record { ranged = steps chip small addresses rom i m (v .ranged); path = fair m t v h .path }
@@ -160,7 +161,7 @@ module _ (chip : Chip) (small : chip .levels ≤ places) (some : 0 < chip .level
     pub record Running (budget : ℕ) (m : Machine) (t : Tally) (own : Bool) : Type 0 where
       pub answered : own ≡ true → (runOf chip rom i budget m) .refusal ≡ 0
       pub onlyOne : ((runOf chip rom i budget m) .refusal ≡ 0) ⊎ ((runOf chip rom i budget m) .refusal ≡ 1)
-      pub during : Within chip rom depths i budget m t
+      pub during : Within chip rom sheet i budget m t
       pub after : Inv ((runOf chip rom i budget m) .machine) (runTally chip rom i ((runOf chip rom i budget m) .steps) m t)
 
     call-run : (budget : ℕ) (m : Machine) (t : Tally) → Inv m t → (b : Bool) → (allInRange chip rom m i && budgetInRange budget) ≡ b
@@ -203,8 +204,8 @@ module _ (chip : Chip) (small : chip .levels ≤ places) (some : 0 < chip .level
 
   -- one call
   pub record Called (k : Call) (m : Machine) (t : Tally) : Type 0 where
-    pub allowed : Allowed chip rom depths k m
-    pub during : During chip rom depths k m t
+    pub allowed : Allowed chip rom sheet k m
+    pub during : During chip rom sheet k m t
     pub after : Inv (leftBy chip rom k m) (tallyAfter chip rom k m t)
 
   by-step : (i : Input) (m : Machine) (t : Tally) → Inv m t → Called (step i) m t
@@ -246,7 +247,7 @@ module _ (chip : Chip) (small : chip .levels ≤ places) (some : 0 < chip .level
   called (stepInPlace i) m t v = by-step-in-place i m t v
   called (runInPlace i budget) m t v = by-run-in-place i budget m t v
 
-  pub good : (ks : List Call) (m : Machine) (t : Tally) → Inv m t → Good chip rom depths m t ks
+  pub good : (ks : List Call) (m : Machine) (t : Tally) → Inv m t → Good chip rom sheet m t ks
   good [] m t v = moment m t v
   good (k ∷ ks) m t v =
       let x = called k m t v in
@@ -263,20 +264,20 @@ rom-parts rom e =
     let p = both (ltb 0 (length rom)) (leb (length rom) 1024) e in
     (ltb-true 0 (length rom) (p .0), leb-true (length rom) 1024 (p .1))
 
-zero-level : (rom depths : List ℕ) → EveryRule upd17132 rom depths → 0 < length rom → holds upd17132 (entryAt depths 0) 0 ≡ true
+zero-level : (rom sheet : List ℕ) → EveryRule upd17132 rom sheet → 0 < length rom → holds (upd17132 .levels) (entryAt sheet 0) 0 ≡ true
 unfolding ruleOf rule1
-zero-level rom depths every h = every 0 1 h (lit≤ tt) (lit≤ tt)
+zero-level rom sheet every h = every 0 1 h (lit≤ tt) (lit≤ tt)
 
 -- the theorem: where every rule holds, every list of calls from reset is good
-pub safe : (rom depths : List ℕ) → romInRange upd17132 rom ≡ true → EveryRule upd17132 rom depths → Safe upd17132 rom depths
-safe rom depths whole every calls =
+pub safe : (rom sheet : List ℕ) → romInRange upd17132 rom ≡ true → EveryRule upd17132 rom sheet → Safe upd17132 rom sheet
+safe rom sheet whole every calls =
     let p = rom-parts rom whole in
-    good upd17132 (lit≤ tt) (lit< tt) ar-fits ar-fits rom depths whole (p .1) every calls resetMachine noCalls
+    good upd17132 (lit≤ tt) (lit< tt) ar-fits ar-fits rom sheet whole (p .1) every calls resetMachine noCalls
     (record {
       ranged = reset-in-range;
       path = record {
         places = refl;
-        here = record { inside = p .0; level = zero-level rom depths every (p .0) };
+        here = record { inside = p .0; level = zero-level rom sheet every (p .0) };
         opened = refl;
         skipping = λ (x : false ≡ true). absurd (let z : _≡_ {A = ℕ} 0 1 = cc in omega arith);
         stacked = λ k h. absurd (not-suc-le-zero h);

@@ -32,16 +32,17 @@ use Rattle.flow.specs.FlowLaw.{flowControl}
 use Rattle.flow.specs.declared.Flow.{Flow}
 use Rattle.flow.specs.declared.Flow.the-variants.{ReadsTable, Barred}
 use Rattle.flow.proofs.Flows.{flow-law, no-table, word-flow}
+use Rattle.sheet.specs.Entry.{entryAt}
 use Rattle.clearance.specs.Calls.{Tally, counted, afterReply}
-use Rattle.clearance.specs.Rules.{entryAt, flowAt, rule3, EveryRule}
+use Rattle.clearance.specs.Rules.{flowAt, rule3, EveryRule}
 use Rattle.clearance.proofs.Paths.{OnPath, Kept, follows}
 use Rattle.clearance.proofs.Ruled.{table-whole, third, fourth, fifth, sixth}
 
 module _ (chip : Chip) (small : chip .levels ≤ places) (some : 0 < chip .levels)
     (fits : (cells : List ℕ) → cellsInRange chip cells ≡ true → arOf cells < 2 ^ 10)
-    (rom depths : List ℕ) (short : length rom ≤ 2 ^ chip .pcBits) (every : EveryRule chip rom depths) (input : Input) where
+    (rom sheet : List ℕ) (short : length rom ≤ 2 ^ chip .pcBits) (every : EveryRule chip rom sheet) (input : Input) where
   abbrev Path : Control → Tally → Type 0
-  Path c t = OnPath chip small some rom depths short every c t
+  Path c t = OnPath chip small some rom sheet short every c t
 
   -- a step that is not refused and keeps control on its path
   pub record Fair (skipped : Bool) (f : Flow) (t : Tally) (s : Step) : Type 0 where
@@ -56,10 +57,10 @@ module _ (chip : Chip) (small : chip .levels ≤ places) (some : 0 < chip .level
     f = flowAt rom (c .pc)
 
     abbrev e : ℕ
-    e = entryAt depths (c .pc)
+    e = entryAt sheet (c .pc)
 
     r3 : rule3 chip rom f e ≡ true
-    r3 = third chip rom depths every (c .pc) (c .levels) (p .here)
+    r3 = third chip rom sheet every (c .pc) (c .levels) (p .here)
 
     not-barred : f ≡ Barred → ⊥
     not-barred q =
@@ -70,7 +71,7 @@ module _ (chip : Chip) (small : chip .levels ≤ places) (some : 0 < chip .level
     in-table : f ≡ ReadsTable → leb (length rom) (arOf (cellsOf m)) ≡ false
     in-table q =
         let z : rule3 chip rom ReadsTable e ≡ true = subst (λ (x : Flow). rule3 chip rom x e ≡ true) q r3 in
-        let n : length rom ≡ 2 ^ 10 = table-whole chip rom depths every e z in
+        let n : length rom ≡ 2 ^ 10 = table-whole chip rom sheet every e z in
         lt-leb (length rom) (arOf (cellsOf m)) (rw n (fits (cellsOf m) (machine-parts chip m r .0)))
 
     -- the same control without the standby mark
@@ -82,14 +83,14 @@ module _ (chip : Chip) (small : chip .levels ≤ places) (some : 0 < chip .level
     unfolding executeOf
     runs i calm q =
         let b : Bool = skipsOf chip (dataOf (woken m) input) i in
-        let k = follows chip small some rom depths short every (marked (c .skip) false c) t wakes calm f refl b r3
-        (fourth chip rom depths every (c .pc) (c .levels) (p .here)) (fifth chip rom depths every (c .pc) (c .levels) (p .here))
-        (sixth chip rom depths every (c .pc) (c .levels) (p .here)) in
+        let k = follows chip small some rom sheet short every (marked (c .skip) false c) t wakes calm f refl b r3
+        (fourth chip rom sheet every (c .pc) (c .levels) (p .here)) (fifth chip rom sheet every (c .pc) (c .levels) (p .here))
+        (sixth chip rom sheet every (c .pc) (c .levels) (p .here)) in
         let law : flowControl chip f b (marked (c .skip) false c) ≡ controlOf chip i b (arOf (cellsOf m)) (marked (c .skip) false c)
         = ap (λ (x : Flow). flowControl chip x b (marked (c .skip) false c)) q
         ∙ sym (flow-law chip i b (arOf (cellsOf m)) (marked (c .skip) false c) (λ (x : flowOf i ≡ Barred). not-barred (q ∙ x))) in
         let x : Transfer = controlOf chip i b (arOf (cellsOf m)) (marked (c .skip) false c) in
-        let k' : Kept chip small some rom depths short every x (counted f t) = subst (λ (y : Transfer). Kept chip small some rom depths short every y (counted f t)) law k in
+        let k' : Kept chip small some rom sheet short every x (counted f t) = subst (λ (y : Transfer). Kept chip small some rom sheet short every y (counted f t)) law k in
         rw (k' .unrefused, no-table rom (arOf (cellsOf m)) i (λ (y : flowOf i ≡ ReadsTable). in-table (q ∙ y)))
         (record { answered = refl; path = k' .path })
 

@@ -1,4 +1,3 @@
-pub mod Entry
 pub mod Rules
 pub mod Calls
 pub mod Safe

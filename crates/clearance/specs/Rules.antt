@@ -11,7 +11,7 @@ use Rattle.memory.specs.Chip.{Chip}
 use Rattle.flow.specs.Flow.{wordFlow}
 use Rattle.flow.specs.declared.Flow.{Flow}
 use Rattle.flow.specs.declared.Flow.the-variants.{Onward, Skips, Branches, Calls, Returns, ReturnsSkip, ReadsTable, StandsBy, Barred}
-use Rattle.clearance.specs.Entry.{Entry, unreached, reached, proper, holds, covers, shares, raised, atMost, atLeast}
+use Rattle.sheet.specs.Entry.{Entry, entryAt, reached, proper, holds, covers, shares, raised, atMost, atLeast}
 
 abbrev pub isReturnSkip : Flow → Bool
 isReturnSkip Onward = false
@@ -29,10 +29,6 @@ pub record Ask : Type 0 where
   pub word : ℕ
   pub entry : Entry
 
--- a sheet has nothing past its end: never reached
-abbrev pub entryAt : List ℕ → ℕ → Entry
-entryAt depths w = getD depths w unreached
-
 -- of a word that lies in the ROM: the rules are tried at no other
 abbrev pub flowAt : List ℕ → ℕ → Flow
 flowAt rom w = wordFlow (getD rom w 0)
@@ -41,10 +37,10 @@ flowAt rom w = wordFlow (getD rom w 0)
 abbrev pub next : Chip → ℕ → ℕ
 next chip w = wrapNext (chip .pcBits) w
 
-module _ (chip : Chip) (rom depths : List ℕ) where
+module _ (chip : Chip) (rom sheet : List ℕ) where
   -- "A word named below must lie in the ROM, or the rule that names it is broken"
   unfoldable pub met : Ask → Bool
-  met a = ltb (a .word) (length rom) && covers chip (entryAt depths (a .word)) (a .entry)
+  met a = ltb (a .word) (length rom) && covers (chip .levels) (entryAt sheet (a .word)) (a .entry)
 
   abbrev pub allMet : List Ask → Bool
   allMet [] = true
@@ -53,7 +49,7 @@ module _ (chip : Chip) (rom depths : List ℕ) where
   -- some reached RETSK shares a depth with an entry
   abbrev pub skipReturnBelow : ℕ → Entry → Bool
   skipReturnBelow zero e = false
-  skipReturnBelow (suc w) e = (isReturnSkip (flowAt rom w) && shares chip (entryAt depths w) e) || skipReturnBelow w e
+  skipReturnBelow (suc w) e = (isReturnSkip (flowAt rom w) && shares (chip .levels) (entryAt sheet w) e) || skipReturnBelow w e
 
   unfoldable pub skipReturns : Entry → Bool
   skipReturns e = skipReturnBelow (length rom) e
@@ -62,11 +58,11 @@ module _ (chip : Chip) (rom depths : List ℕ) where
 
 -- 1: "Word 0 has level 0", tried at word 0 only, reached or not
 unfoldable pub rule1 : Chip → ℕ → Entry → Bool
-rule1 chip w e = cond (eqb w 0) (holds chip e 0) true
+rule1 chip w e = cond (eqb w 0) (holds (chip .levels) e 0) true
 
 -- 2: "Every entry is 0 to 5 or 15"
 unfoldable pub rule2 : Chip → Entry → Bool
-rule2 chip e = proper chip e
+rule2 chip e = proper (chip .levels) e
 
 -- 3: an instruction, none of refusal 4, and no BR @AR, CALL @AR, PUSH AR or POP AR; MOVT only in a ROM of 1,024 words (AR has
 -- ten bits) and with a free level
@@ -94,22 +90,22 @@ asks4 chip w ReadsTable e = record { word = next chip w; entry = e } ∷ []
 asks4 chip w StandsBy e = record { word = next chip w; entry = e } ∷ []
 asks4 chip w Barred e = []
 
-module _ (chip : Chip) (rom depths : List ℕ) where
+module _ (chip : Chip) (rom sheet : List ℕ) where
   abbrev pub rule4 : ℕ → Flow → Entry → Bool
-  rule4 w f e = allMet chip rom depths (asks4 chip w f e)
+  rule4 w f e = allMet chip rom sheet (asks4 chip w f e)
 
   -- 5: CALL at level 4 or less, its target one higher; if a reached RETSK has that higher level, the word after next has CALL's
   -- own
   abbrev pub asks5 : ℕ → ℕ → Entry → List Ask
   asks5 w to e =
       record { word = to; entry = raised e }
-      ∷ cond (skipReturns chip rom depths (raised e)) (record { word = next chip (next chip w); entry = e } ∷ []) []
+      ∷ cond (skipReturns chip rom sheet (raised e)) (record { word = next chip (next chip w); entry = e } ∷ []) []
 
   abbrev pub rule5 : ℕ → Flow → Entry → Bool
   rule5 w Onward e = true
   rule5 w Skips e = true
   rule5 w (Branches to) e = true
-  rule5 w (Calls to) e = atMost (chip .levels - 1) e && allMet chip rom depths (asks5 w to e)
+  rule5 w (Calls to) e = atMost (chip .levels - 1) e && allMet chip rom sheet (asks5 w to e)
   rule5 w Returns e = true
   rule5 w ReturnsSkip e = true
   rule5 w ReadsTable e = true
@@ -130,9 +126,9 @@ rule6 Barred e = true
 
 -- rules 3 to 6 are those of reached words
 abbrev pub whereReached : Chip → Entry → Bool → Bool
-whereReached chip e b = cond (reached chip e) b true
+whereReached chip e b = cond (reached (chip .levels) e) b true
 
-module _ (chip : Chip) (rom depths : List ℕ) where
+module _ (chip : Chip) (rom sheet : List ℕ) where
   -- the rules by number, 1 to 6; nothing asks for another
   unfoldable pub ruleOf : ℕ → Flow → Entry → ℕ → Bool
   ruleOf w f e r =
@@ -140,14 +136,14 @@ module _ (chip : Chip) (rom depths : List ℕ) where
       (rule1 chip w e
       ∷ rule2 chip e
       ∷ whereReached chip e (rule3 chip rom f e)
-      ∷ whereReached chip e (rule4 chip rom depths w f e)
-      ∷ whereReached chip e (rule5 chip rom depths w f e)
+      ∷ whereReached chip e (rule4 chip rom sheet w f e)
+      ∷ whereReached chip e (rule5 chip rom sheet w f e)
       ∷ whereReached chip e (rule6 f e)
       ∷ [])
       (r - 1) false
 
   abbrev pub ruleHolds : ℕ → ℕ → Bool
-  ruleHolds w r = ruleOf w (flowAt rom w) (entryAt depths w) r
+  ruleHolds w r = ruleOf w (flowAt rom w) (entryAt sheet w) r
 
   -- every rule holds at every word
   abbrev pub EveryRule : Type 0

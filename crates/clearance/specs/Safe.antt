@@ -14,16 +14,15 @@ use Rattle.cpu.specs.Run.{runOf}
 use Rattle.machine.specs.declared.Input.{Input}
 use Rattle.machine.specs.declared.Machine.{Machine}
 use Rattle.clearance.specs.Calls.{Call, step, run, stepInPlace, runInPlace, ownInRange, Tally, noCalls, runTally, refusalAt, leftBy, tallyAfter}
-use Rattle.clearance.specs.Entry.{holds}
-use Rattle.clearance.specs.Rules.{entryAt}
+use Rattle.sheet.specs.Entry.{entryAt, holds}
 
-module _ (chip : Chip) (rom depths : List ℕ) where
+module _ (chip : Chip) (rom sheet : List ℕ) where
   -- a moment: the PC lies in the ROM, and its entry and the record's open levels are the number of open calls, which are
   -- the calls that have not returned
   pub record Moment (m : Machine) (t : Tally) : Type 0 where
     pub inside : m .control .pc < length rom
     pub opened : t .returns + m .control .levels ≡ t .calls
-    pub level : holds chip (entryAt depths (m .control .pc)) (m .control .levels) ≡ true
+    pub level : holds (chip .levels) (entryAt sheet (m .control .pc)) (m .control .levels) ≡ true
 
   -- a call that has its own inputs and budget in range is not refused, and no call with a number other than 1
   pub record Allowed (c : Call) (m : Machine) : Type 0 where

@@ -8,10 +8,8 @@ use native.Mathlib.Omega.{arith}
 use lib.Dec.{eqb, leb, ltb}
 use lib.ListN.{length, take, drop}
 use borrow.Author.Tests.{le-leb, lt-leb, eq-eqb, ne-eqb, leb-true, eqb-true}
-use Rattle.memory.specs.Chip.{upd17132}
-use Rattle.clearance.specs.Entry.{proper}
 use Rattle.station_file.specs.Reading.{Reading, got, refused, andThen, fields}
-use Rattle.station_file.specs.Station.{Form, inputByte, romCount, sheetCount}
+use Rattle.station_file.specs.Station.{entryByte, Form, inputByte, romCount, sheetCount}
 use Rattle.station_file.specs.Write.{everyAt, faultOf}
 use Rattle.station_file.specs.Answers.{faultNumber, stationOf}
 use Rattle.station_file.specs.Inside.{scanned, byteField}
@@ -63,11 +61,11 @@ module _ (form : Form) (rom sheet inputs : List ℕ) where
     sheet-count-fails b = rw (a, b) refl
 
     module _ (b : sheetCount (length rom) (length sheet) ≡ true) where
-      pub sheet-fails : everyAt (λ (k : ℕ). proper upd17132) 0 sheet ≡ false → Says 23
+      pub sheet-fails : everyAt entryByte 0 sheet ≡ false → Says 23
       unfolding faultOf
       sheet-fails d = rw (a, b, d) refl
 
-      module _ (d : everyAt (λ (k : ℕ). proper upd17132) 0 sheet ≡ true) where
+      module _ (d : everyAt entryByte 0 sheet ≡ true) where
         pub part-record : (length inputs % 11 ≡ 0 → ⊥) → Says 22
         unfolding faultOf
         part-record e = rw (a, b, d, ne-eqb (length inputs % 11) 0 e) refl

@@ -5,8 +5,7 @@ use mathlib.Core.List.{List, [], _∷_}
 use Prim.Native.Nat.{ℕ, _*_, _%_}
 use lib.Dec.{eqb, ltb, leb}
 use lib.ListN.{length}
-use Rattle.memory.specs.Chip.{upd17132}
-use Rattle.clearance.specs.Entry.{proper}
+use Rattle.sheet.specs.Entry.{proper}
 use Rattle.station_file.specs.Reading.{Reading, got, refused, andThen, tested, byte, number, fields}
 
 -- what differs between the forms of the file
@@ -47,8 +46,15 @@ romSection xs = andThen (tested romCount 22 (number 2 xs)) (λ (n : ℕ) (rest :
 abbrev pub sheetCount : ℕ → ℕ → Bool
 sheetCount words n = eqb n 0 || eqb n words
 
+-- a level of the file's form, whatever the chip: document 02, "Station files stay those of the 17132"
+abbrev pub mostLevel : ℕ
+mostLevel = 5
+
+abbrev pub entryByte : ℕ → ℕ → Bool
+entryByte k b = proper mostLevel b
+
 abbrev pub entryField : ℕ → List ℕ → Reading ℕ
-entryField k xs = tested (proper upd17132) 23 (byte xs)
+entryField k xs = tested (entryByte k) 23 (byte xs)
 
 unfoldable pub sheetSection : ℕ → List ℕ → Reading (List ℕ)
 sheetSection words xs = andThen (tested (sheetCount words) 22 (number 2 xs)) (λ (n : ℕ) (rest : List ℕ). fields entryField 0 n rest)

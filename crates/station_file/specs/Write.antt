@@ -6,10 +6,8 @@ use mathlib.Core.List.{List, [], _∷_, _++_}
 use Prim.Native.Nat.{ℕ, zero, suc, _/_, _%_, _^_}
 use lib.Dec.{eqb, leb}
 use lib.ListN.{length}
-use Rattle.memory.specs.Chip.{upd17132}
-use Rattle.clearance.specs.Entry.{proper}
 use Rattle.station_file.specs.Read.{overlay}
-use Rattle.station_file.specs.Station.{Form, Station, recordBytes, inputByte, romCount, sheetCount}
+use Rattle.station_file.specs.Station.{entryByte, Form, Station, recordBytes, inputByte, romCount, sheetCount}
 
 -- a number in so many bytes, high byte first
 abbrev pub bytesOf : ℕ → ℕ → List ℕ
@@ -45,7 +43,7 @@ unfoldable pub faultOf : Form → Station → ℕ
 faultOf form s =
     cond (romCount (length (s .rom)))
     (cond (sheetCount (length (s .rom)) (length (s .sheet)))
-    (cond (everyAt (λ (k : ℕ). proper upd17132) 0 (s .sheet))
+    (cond (everyAt entryByte 0 (s .sheet))
     (cond (inputCount form (s .inputs))
     (cond (everyAt inputByte 0 (s .inputs)) 0 23) 22) 23) 22) 22
 

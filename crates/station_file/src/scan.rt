@@ -4,23 +4,15 @@ ghost use mathlib.Core.Path.{_≡_};
 ghost use mathlib.Core.Bool.{true};
 ghost use Prim.Native.Nat.{_+_, _≤_};
 ghost use lib.ListN.{length, drop};
-ghost use Rattle.memory.specs.Chip.{upd17132};
-ghost use Rattle.clearance.specs.Entry.{proper};
 ghost use Rattle.station_file.specs.Reading.{fields};
 ghost use Rattle.station_file.specs.Station.{inputByte, entryField, inputField};
 ghost use Rattle.station_file.specs.Inside.{scanned, ScanFits, Passed, RecordGood};
 use crate::Checked;
 use crate::Fault;
+use sheet::proper;
 
-// 0 to 5, or 15.
-fn proper_entry(entry: u8) -> bool
-    ensures { λ r. ⌜ r ≡ proper upd17132 entry ⌝ }
-{
-    if entry <= 5 {
-        return true;
-    }
-    entry == 15
-}
+// The highest level of a sheet in a file.
+const MOST_LEVEL: u8 = 5;
 
 // The byte at an index of the input records: a pin or a direction below 16, or a release below 2.
 fn proper_input(index: usize, byte: u8) -> bool
@@ -43,7 +35,7 @@ pub fn entries(bytes: &[u8], at: usize, count: usize) -> Checked
         if bytes.len() <= next {
             return Checked::Refused(Fault::Early);
         }
-        if !proper_entry(bytes[next]) {
+        if !proper(MOST_LEVEL, bytes[next]) {
             return Checked::Refused(Fault::Entry);
         }
         index += 1;

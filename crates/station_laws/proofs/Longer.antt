@@ -9,10 +9,8 @@ use native.Mathlib.Omega.{arith}
 use lib.Dec.{eqb, leb}
 use lib.ListN.{length, take, drop, length-append, length-drop, take-append-drop}
 use borrow.Author.Tests.{leb-true}
-use Rattle.memory.specs.Chip.{upd17132}
-use Rattle.clearance.specs.Entry.{proper}
 use Rattle.station_file.specs.Reading.{Reading, got, refused, andThen, tested, byte, number, fields}
-use Rattle.station_file.specs.Station.{Station, form1, romCount, sheetCount, inputByte, wordField, entryField, inputField, romSection, sheetSection, inputSection, ended, parseOf}
+use Rattle.station_file.specs.Station.{entryByte, Station, form1, romCount, sheetCount, inputByte, wordField, entryField, inputField, romSection, sheetSection, inputSection, ended, parseOf}
 use Rattle.station_file.proofs.Checks.{words-bound, entries-bound}
 use Rattle.station_laws.specs.Longer.{Longer}
 use Rattle.station_laws.proofs.Sizes.{Takes, passed, two-bytes, one-byte, rom-counted, sheet-counted, inputs-counted, inputsOn, sheetOn, romOn, sizes}
@@ -112,7 +110,7 @@ steady-rom = steady-section romCount (λ (n : ℕ). n) 2 2048 wordField (λ k. s
 steady-sheet : (words : ℕ) → words ≤ 1024 → Steady 1026 (sheetSection words)
 unfolding sheetSection
 steady-sheet words h =
-    steady-section (sheetCount words) (λ (n : ℕ). n) 1 1024 entryField (steady-bytes (λ (k : ℕ). proper upd17132)) (one-byte (λ (k : ℕ). proper upd17132))
+    steady-section (sheetCount words) (λ (n : ℕ). n) 1 1024 entryField (steady-bytes entryByte) (one-byte entryByte)
     (λ n e. omega (arith, h, entries-bound words n e))
 
 steady-inputs : Steady 45047 (inputSection form1)

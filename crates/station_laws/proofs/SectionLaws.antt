@@ -7,10 +7,8 @@ use Prim.Native.Nat.{ℕ, _*_, _^_}
 use borrow.Author.Tests.{ltb-true, lt-ltb}
 use lib.Dec.{ltb, leb}
 use lib.ListN.{length}
-use Rattle.memory.specs.Chip.{upd17132}
-use Rattle.clearance.specs.Entry.{proper}
 use Rattle.station_file.specs.Reading.{got, tested, byte}
-use Rattle.station_file.specs.Station.{Form, recordBytes, inputByte, romCount, wordField, romSection, sheetCount, sheetSection, inputSection}
+use Rattle.station_file.specs.Station.{entryByte, Form, recordBytes, inputByte, romCount, wordField, romSection, sheetCount, sheetSection, inputSection}
 use Rattle.station_file.specs.Write.{bytesOf, wordBytes}
 use Rattle.station_laws.proofs.Readings.{not-got, tested-got, got-tested}
 use Rattle.station_laws.proofs.Bytes.{Bytes, number-back, number-forth}
@@ -50,7 +48,7 @@ bytes-law ok = record {
 }
 
 abbrev pub entries : Codec
-entries = bytes (λ (k : ℕ). proper upd17132)
+entries = bytes entryByte
 
 abbrev pub inputs : Codec
 inputs = bytes inputByte

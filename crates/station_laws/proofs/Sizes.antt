@@ -9,10 +9,8 @@ use native.Mathlib.Omega.{arith}
 use lib.Dec.{eqb, leb}
 use lib.ListN.{length}
 use borrow.Author.Tests.{leb-true}
-use Rattle.memory.specs.Chip.{upd17132}
-use Rattle.clearance.specs.Entry.{proper}
 use Rattle.station_file.specs.Reading.{Reading, got, refused, andThen, tested, byte, number, fields}
-use Rattle.station_file.specs.Station.{Station, form1, romCount, sheetCount, inputByte, wordField, entryField, inputField, romSection, sheetSection, inputSection, ended, parseOf}
+use Rattle.station_file.specs.Station.{entryByte, Station, form1, romCount, sheetCount, inputByte, wordField, entryField, inputField, romSection, sheetSection, inputSection, ended, parseOf}
 use Rattle.station_laws.specs.Sizes.{Small, Sizes}
 use Rattle.station_file.proofs.Checks.{words-bound, entries-bound}
 
@@ -95,7 +93,7 @@ rom-counted xs vs rest h = counted romCount (λ (n : ℕ). n) 2 wordField (λ (k
 pub sheet-counted : (words : ℕ) (xs vs rest : List ℕ) → sheetSection words xs ≡ got vs rest → Counted (sheetCount words) (λ (n : ℕ). n) 1 xs vs rest
 unfolding sheetSection
 sheet-counted words xs vs rest h =
-    counted (sheetCount words) (λ (n : ℕ). n) 1 entryField (one-byte (λ (k : ℕ). proper upd17132)) xs vs rest h
+    counted (sheetCount words) (λ (n : ℕ). n) 1 entryField (one-byte entryByte) xs vs rest h
 
 pub inputs-counted : (xs vs rest : List ℕ) → inputSection form1 xs ≡ got vs rest
     → Counted (λ (n : ℕ). leb n 4095) (λ (n : ℕ). 11 * n) 1 xs vs rest

@@ -1,5 +1,5 @@
 pub mod OneReturn
-pub mod Marks
+pub mod Depths
 pub mod Exact
 pub mod Scan
 pub mod Promised

@@ -10,13 +10,13 @@ use Rattle.verifier.specs.Verdict.{Answer, pass, verifyOf, Clear}
 use Rattle.verifier.proofs.Exact.{exactly}
 use Rattle.clearance.proofs.Safety.{safe}
 
-module _ (rom depths : List ℕ) (a : Answer) (q : a ≡ verifyOf upd17132 rom depths) where
-  clear : a ≡ pass → Clear upd17132 rom depths
-  clear e = exactly upd17132 rom depths .0 (sym q ∙ e)
+module _ (rom sheet : List ℕ) (a : Answer) (q : a ≡ verifyOf upd17132 rom sheet) where
+  clear : a ≡ pass → Clear upd17132 rom sheet
+  clear e = exactly upd17132 rom sheet .0 (sym q ∙ e)
 
-  pub promised : (a ≡ verifyOf upd17132 rom depths)
-      × (((a ≡ pass) ↔ Clear upd17132 rom depths) × (a ≡ pass → Safe upd17132 rom depths))
+  pub promised : (a ≡ verifyOf upd17132 rom sheet)
+      × (((a ≡ pass) ↔ Clear upd17132 rom sheet) × (a ≡ pass → Safe upd17132 rom sheet))
   promised = (
     q,
-    ((clear, (λ c. q ∙ exactly upd17132 rom depths .1 c)), (λ e. safe rom depths (clear e .whole) (clear e .rules))),
+    ((clear, (λ c. q ∙ exactly upd17132 rom sheet .1 c)), (λ e. safe rom sheet (clear e .whole) (clear e .rules))),
   )

@@ -1,7 +1,8 @@
 -- Different verdicts differ in document 01's numbers.
 -- Assumes nothing.
-use mathlib.Core.Path.{_≡_, _∙_, refl, ap, sym}
+use mathlib.Core.Path.{_≡_, refl}
 use mathlib.Core.Bool.{cond}
+use mathlib.Mathlib.Logic.Function.Defs.{LeftInverse·injective}
 use lib.Dec.{eqb}
 use Rattle.verifier.specs.Verdict.{Answer, pass, fail, refused, answerOf, Faithful}
 use Rattle.verifier.specs.declared.Verdict.{Verdict}
@@ -20,4 +21,4 @@ there-and-back RomLength = refl
 there-and-back SheetLength = refl
 
 pub faithful : Faithful
-faithful a b e = sym (there-and-back a) ∙ ap back e ∙ there-and-back b
+faithful = LeftInverse·injective back answerOf there-and-back

@@ -1,1 +1,2 @@
+pub mod ReturnDepths
 pub mod Verdict

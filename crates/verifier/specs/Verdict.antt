@@ -32,13 +32,13 @@ answerOf SheetLength = refused 9
 abbrev pub Faithful : Type 0
 Faithful = (a b : Verdict) → answerOf a ≡ answerOf b → a ≡ b
 
-module _ (chip : Chip) (rom depths : List ℕ) where
+module _ (chip : Chip) (rom sheet : List ℕ) where
   -- every rule holds at a word
   abbrev pub wordHolds : ℕ → Bool
-  wordHolds w = every (λ (k : ℕ). ruleHolds chip rom depths w (suc k)) 6
+  wordHolds w = every (λ (k : ℕ). ruleHolds chip rom sheet w (suc k)) 6
 
   abbrev pub lowestRule : ℕ → ℕ
-  lowestRule w = suc (firstFalse (λ (k : ℕ). ruleHolds chip rom depths w (suc k)) 6)
+  lowestRule w = suc (firstFalse (λ (k : ℕ). ruleHolds chip rom sheet w (suc k)) 6)
 
   abbrev pub lowestWord : ℕ
   lowestWord = firstFalse wordHolds (length rom)
@@ -48,13 +48,13 @@ module _ (chip : Chip) (rom depths : List ℕ) where
 
   -- refusal 1, for the ROM's length alone; then 9, sheet length differs from the ROM's; then the rules
   unfoldable pub verifyOf : Answer
-  verifyOf = cond (romInRange chip rom) (cond (eqb (length depths) (length rom)) ruled (refused 9)) (refused 1)
+  verifyOf = cond (romInRange chip rom) (cond (eqb (length sheet) (length rom)) ruled (refused 9)) (refused 1)
 
   -- no refusal, and every rule holds at every word
   pub record Clear : Type 0 where
     pub whole : romInRange chip rom ≡ true
-    pub fitting : length depths ≡ length rom
-    pub rules : EveryRule chip rom depths
+    pub fitting : length sheet ≡ length rom
+    pub rules : EveryRule chip rom sheet
 
   -- "The check passes a ROM with its sheet exactly when it has no refusal for them and document 01's clearance rules hold"
   abbrev pub Exactly : Type 0

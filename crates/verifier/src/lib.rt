@@ -1,9 +1,12 @@
 // The level sheet check. A ROM that passes it with its sheet never runs into a refusal of its own.
-mod check;
+mod reading;
 mod rules;
-mod sheet;
+mod verification;
 
-pub use check::verify;
+pub use verification::verify;
+
+// The levels of the chip's address stack.
+const LEVELS: u8 = 5;
 
 // What the check answers.
 pub enum Verdict {

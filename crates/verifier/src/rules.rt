@@ -1,15 +1,21 @@
 // The clearance rules, each of a word's number, its flow and its entry.
 ghost use mathlib.Core.Path.{_≡_};
-ghost use mathlib.Core.Bool.{false};
 ghost use mathlib.Core.List.{[], _∷_};
-ghost use Prim.Native.Nat.{ℕ, _<_, _≤_};
-ghost use lib.ListN.{getD};
+ghost use Prim.Native.Nat.{_≤_};
 ghost use Rattle.laws.specs.Wrap.{wrapNext};
 ghost use Rattle.memory.specs.Chip.{upd17132};
-ghost use Rattle.clearance.specs.Rules.{allMet, skipReturns, rule1, rule2, rule3, rule4, rule5, rule6, ruleOf};
-use crate::sheet::met;
-use crate::sheet::reached;
+ghost use Rattle.clearance.specs.Rules.{allMet, rule1, rule2, rule3, rule4, rule5, rule6, ruleOf};
+ghost use Rattle.verifier.specs.ReturnDepths.{ReturnDepths};
+use crate::LEVELS;
+use crate::reading::met;
 use flow::Flow;
+use sheet::at_least;
+use sheet::at_most;
+use sheet::holds;
+use sheet::proper;
+use sheet::raised;
+use sheet::reached;
+use sheet::shares_any;
 
 // Rule 1, of word 0 only.
 fn rule_1(word: u16, entry: u8) -> bool
@@ -18,17 +24,14 @@ fn rule_1(word: u16, entry: u8) -> bool
     if word != 0 {
         return true;
     }
-    entry == 0
+    holds(LEVELS, entry, 0)
 }
 
 // Rule 2.
 fn rule_2(entry: u8) -> bool
     ensures { λ r. ⌜ r ≡ rule2 upd17132 entry ⌝ }
 {
-    if reached(entry) {
-        return true;
-    }
-    entry == 15
+    proper(LEVELS, entry)
 }
 
 // MOVT.
@@ -38,7 +41,7 @@ fn table_allowed(rom: &[u16], entry: u8) -> bool
     if rom.len() != 1024 {
         return false;
     }
-    entry <= 4
+    at_most(LEVELS - 1, entry)
 }
 
 // Rule 3.
@@ -59,63 +62,63 @@ fn rule_3(rom: &[u16], flow: Flow, entry: u8) -> bool
 }
 
 // The two words that a skip may go to.
-fn skip_met(rom: &[u16], depths: &[u8], next: u16, entry: u8) -> bool
-    ensures { λ r. ⌜ r ≡ allMet upd17132 (now (rom .entry)) (now (depths .entry)) (record { word = next; entry = entry } ∷ record { word = wrapNext 10 next; entry = entry } ∷ []) ⌝ }
+fn skip_met(rom: &[u16], sheet: &[u8], next: u16, entry: u8) -> bool
+    ensures { λ r. ⌜ r ≡ allMet upd17132 (now (rom .entry)) (now (sheet .entry)) (record { word = next; entry = entry } ∷ record { word = wrapNext 10 next; entry = entry } ∷ []) ⌝ }
 {
-    if !met(rom, depths, next, entry) {
+    if !met(rom, sheet, next, entry) {
         return false;
     }
-    met(rom, depths, memory::next(next), entry)
+    met(rom, sheet, memory::next(next), entry)
 }
 
 // Rule 4.
-fn rule_4(rom: &[u16], depths: &[u8], word: u16, flow: Flow, entry: u8) -> bool
-    ensures { λ r. ⌜ r ≡ rule4 upd17132 (now (rom .entry)) (now (depths .entry)) word flow entry ⌝ }
+fn rule_4(rom: &[u16], sheet: &[u8], word: u16, flow: Flow, entry: u8) -> bool
+    ensures { λ r. ⌜ r ≡ rule4 upd17132 (now (rom .entry)) (now (sheet .entry)) word flow entry ⌝ }
 {
     let next = memory::next(word);
     match flow {
-        Flow::Onward => met(rom, depths, next, entry),
-        Flow::Skips => skip_met(rom, depths, next, entry),
-        Flow::Branches(to) => met(rom, depths, to, entry),
-        Flow::Calls(to) => met(rom, depths, next, entry),
+        Flow::Onward => met(rom, sheet, next, entry),
+        Flow::Skips => skip_met(rom, sheet, next, entry),
+        Flow::Branches(to) => met(rom, sheet, to, entry),
+        Flow::Calls(to) => met(rom, sheet, next, entry),
         Flow::Returns => true,
         Flow::ReturnsSkip => true,
-        Flow::ReadsTable => met(rom, depths, next, entry),
-        Flow::StandsBy => met(rom, depths, next, entry),
+        Flow::ReadsTable => met(rom, sheet, next, entry),
+        Flow::StandsBy => met(rom, sheet, next, entry),
         Flow::Barred => true,
     }
 }
 
 // CALL.
-fn call_allowed(rom: &[u16], depths: &[u8], seen: [bool; 6], word: u16, to: u16, entry: u8) -> bool
-    requires { ⌜ ((d : ℕ) → d < 6 → getD seen d false ≡ skipReturns upd17132 (now rom) (now depths) d) ⌝ }
-    ensures { λ r. ⌜ r ≡ rule5 upd17132 (now (rom .entry)) (now (depths .entry)) word (Flow.Calls to) entry ⌝ }
+fn call_allowed(rom: &[u16], sheet: &[u8], depths: [bool; 6], word: u16, to: u16, entry: u8) -> bool
+    requires { ⌜ ReturnDepths upd17132 (now rom) (now sheet) depths ⌝ }
+    ensures { λ r. ⌜ r ≡ rule5 upd17132 (now (rom .entry)) (now (sheet .entry)) word (Flow.Calls to) entry ⌝ }
 {
-    if 4 < entry {
+    if !at_most(LEVELS - 1, entry) {
         return false;
     }
-    let higher = entry + 1;
-    if !met(rom, depths, to, higher) {
+    let higher = raised(entry);
+    if !met(rom, sheet, to, higher) {
         return false;
     }
-    if !seen[higher as usize] {
+    if !shares_any(depths, higher) {
         return true;
     }
     let next = memory::next(word);
     let after = memory::next(next);
-    met(rom, depths, after, entry)
+    met(rom, sheet, after, entry)
 }
 
 // Rule 5.
-fn rule_5(rom: &[u16], depths: &[u8], seen: [bool; 6], word: u16, flow: Flow, entry: u8) -> bool
-    requires { ⌜ ((d : ℕ) → d < 6 → getD seen d false ≡ skipReturns upd17132 (now rom) (now depths) d) ⌝ }
-    ensures { λ r. ⌜ r ≡ rule5 upd17132 (now (rom .entry)) (now (depths .entry)) word flow entry ⌝ }
+fn rule_5(rom: &[u16], sheet: &[u8], depths: [bool; 6], word: u16, flow: Flow, entry: u8) -> bool
+    requires { ⌜ ReturnDepths upd17132 (now rom) (now sheet) depths ⌝ }
+    ensures { λ r. ⌜ r ≡ rule5 upd17132 (now (rom .entry)) (now (sheet .entry)) word flow entry ⌝ }
 {
     match flow {
         Flow::Onward => true,
         Flow::Skips => true,
         Flow::Branches(to) => true,
-        Flow::Calls(to) => call_allowed(rom, depths, seen, word, to, entry),
+        Flow::Calls(to) => call_allowed(rom, sheet, depths, word, to, entry),
         Flow::Returns => true,
         Flow::ReturnsSkip => true,
         Flow::ReadsTable => true,
@@ -133,8 +136,8 @@ fn rule_6(flow: Flow, entry: u8) -> bool
         Flow::Skips => true,
         Flow::Branches(to) => true,
         Flow::Calls(to) => true,
-        Flow::Returns => 1 <= entry,
-        Flow::ReturnsSkip => 1 <= entry,
+        Flow::Returns => at_least(1, entry),
+        Flow::ReturnsSkip => at_least(1, entry),
         Flow::ReadsTable => true,
         Flow::StandsBy => true,
         Flow::Barred => true,
@@ -142,17 +145,17 @@ fn rule_6(flow: Flow, entry: u8) -> bool
 }
 
 // Whether a rule holds, by its number; rules 3 to 6 are those of reached words.
-pub fn holds(
+pub fn rule_holds(
     rom: &[u16],
-    depths: &[u8],
-    seen: [bool; 6],
+    sheet: &[u8],
+    depths: [bool; 6],
     word: u16,
     flow: Flow,
     entry: u8,
     rule: u8,
 ) -> bool
-    requires { ⌜ ((d : ℕ) → d < 6 → getD seen d false ≡ skipReturns upd17132 (now rom) (now depths) d) × (1 ≤ rule) × (rule ≤ 6) ⌝ }
-    ensures { λ r. ⌜ r ≡ ruleOf upd17132 (now (rom .entry)) (now (depths .entry)) word flow entry rule ⌝ }
+    requires { ⌜ ReturnDepths upd17132 (now rom) (now sheet) depths × (1 ≤ rule) × (rule ≤ 6) ⌝ }
+    ensures { λ r. ⌜ r ≡ ruleOf upd17132 (now (rom .entry)) (now (sheet .entry)) word flow entry rule ⌝ }
 {
     if rule == 1 {
         return rule_1(word, entry);
@@ -160,13 +163,13 @@ pub fn holds(
     if rule == 2 {
         return rule_2(entry);
     }
-    if !reached(entry) {
+    if !reached(LEVELS, entry) {
         return true;
     }
     match rule {
         3 => rule_3(rom, flow, entry),
-        4 => rule_4(rom, depths, word, flow, entry),
-        5 => rule_5(rom, depths, seen, word, flow, entry),
+        4 => rule_4(rom, sheet, word, flow, entry),
+        5 => rule_5(rom, sheet, depths, word, flow, entry),
         _ => rule_6(flow, entry),
     }
 }

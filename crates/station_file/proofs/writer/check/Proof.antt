@@ -1,8 +1,6 @@
 use Rattle.station_file.proofs.Checks.{passes, fails, rom-count-fails, sheet-count-fails, sheet-fails, part-record, too-many, inputs-fail, no-fault, words-bound, entries-bound}
 use Rattle.station_file.specs.Inside.{formOf}
-use Rattle.station_file.specs.Station.{inputByte}
-use Rattle.clearance.specs.Entry.{proper}
-use Rattle.memory.specs.Chip.{upd17132}
+use Rattle.station_file.specs.Station.{entryByte, inputByte}
 use borrow.Author.Tests.{not-true, not-false}
 use lib.ListN.{length}
 use native.Mathlib.Omega.{arith}
@@ -40,17 +38,17 @@ enum-told-2 c = search needs
 returns-3 : tie.Need-returns-3
 returns-3 c =
     let a = c .before .before .before .before .before .before .before .before .before .before .args in
-    (sheet-fails (formOf (a .form)) (a .rom .now) (a .sheet .now) (a .inputs .now) (sym (c .before .before .before .before .before .before .rom-count .ensures) ∙ not-false _ (c .before .before .before .before .before .if1 .left)) (sym (c .before .before .before .before .sheet-count .ensures) ∙ not-false _ (c .before .before .before .if2 .left)) (fails (λ (k : ℕ). proper upd17132) (a .sheet .now) (c .before .before .entries .result) (c .before .before .entries .ensures .0) (c .enum-told2 .given .0 .0) (c .enum-told2 .given .1)), tt)
+    (sheet-fails (formOf (a .form)) (a .rom .now) (a .sheet .now) (a .inputs .now) (sym (c .before .before .before .before .before .before .rom-count .ensures) ∙ not-false _ (c .before .before .before .before .before .if1 .left)) (sym (c .before .before .before .before .sheet-count .ensures) ∙ not-false _ (c .before .before .before .if2 .left)) (fails entryByte (a .sheet .now) (c .before .before .entries .result) (c .before .before .entries .ensures .0) (c .enum-told2 .given .0 .0) (c .enum-told2 .given .1)), tt)
 
 returns-4 : tie.Need-returns-4
 returns-4 c =
     let a = c .before .before .before .before .before .before .before .before .before .before .before .args in
-    (part-record (formOf (a .form)) (a .rom .now) (a .sheet .now) (a .inputs .now) (sym (c .before .before .before .before .before .before .before .rom-count .ensures) ∙ not-false _ (c .before .before .before .before .before .before .if1 .left)) (sym (c .before .before .before .before .before .sheet-count .ensures) ∙ not-false _ (c .before .before .before .before .if2 .left)) (passes (λ (k : ℕ). proper upd17132) (a .sheet .now) (c .before .before .before .entries .result) (c .before .before .before .entries .ensures .0) (c .before .enum-told .given .1)) (c .if3 .taken), tt)
+    (part-record (formOf (a .form)) (a .rom .now) (a .sheet .now) (a .inputs .now) (sym (c .before .before .before .before .before .before .before .rom-count .ensures) ∙ not-false _ (c .before .before .before .before .before .before .if1 .left)) (sym (c .before .before .before .before .before .sheet-count .ensures) ∙ not-false _ (c .before .before .before .before .if2 .left)) (passes entryByte (a .sheet .now) (c .before .before .before .entries .result) (c .before .before .before .entries .ensures .0) (c .before .enum-told .given .1)) (c .if3 .taken), tt)
 
 returns-5 : tie.Need-returns-5
 returns-5 c =
     let a = c .before .before .before .before .before .before .before .before .before .before .before .before .before .args in
-    (too-many (formOf (a .form)) (a .rom .now) (a .sheet .now) (a .inputs .now) (sym (c .before .before .before .before .before .before .before .before .before .rom-count .ensures) ∙ not-false _ (c .before .before .before .before .before .before .before .before .if1 .left)) (sym (c .before .before .before .before .before .before .before .sheet-count .ensures) ∙ not-false _ (c .before .before .before .before .before .before .if2 .left)) (passes (λ (k : ℕ). proper upd17132) (a .sheet .now) (c .before .before .before .before .before .entries .result) (c .before .before .before .before .before .entries .ensures .0) (c .before .before .before .enum-told .given .1)) (c .before .before .if3 .left) (c .if4 .taken), tt)
+    (too-many (formOf (a .form)) (a .rom .now) (a .sheet .now) (a .inputs .now) (sym (c .before .before .before .before .before .before .before .before .before .rom-count .ensures) ∙ not-false _ (c .before .before .before .before .before .before .before .before .if1 .left)) (sym (c .before .before .before .before .before .before .before .sheet-count .ensures) ∙ not-false _ (c .before .before .before .before .before .before .if2 .left)) (passes entryByte (a .sheet .now) (c .before .before .before .before .before .entries .result) (c .before .before .before .before .before .entries .ensures .0) (c .before .before .before .enum-told .given .1)) (c .before .before .if3 .left) (c .if4 .taken), tt)
 
 inputs-requires : tie.Need-inputs-requires
 inputs-requires c κs = search needs
@@ -64,14 +62,14 @@ enum-told-4 c = search needs
 returns-6 : tie.Need-returns-6
 returns-6 c =
     let a = c .before .before .before .before .before .before .before .before .before .before .before .before .before .before .before .before .args in
-    (inputs-fail (formOf (a .form)) (a .rom .now) (a .sheet .now) (a .inputs .now) (sym (c .before .before .before .before .before .before .before .before .before .before .before .before .rom-count .ensures) ∙ not-false _ (c .before .before .before .before .before .before .before .before .before .before .before .if1 .left)) (sym (c .before .before .before .before .before .before .before .before .before .before .sheet-count .ensures) ∙ not-false _ (c .before .before .before .before .before .before .before .before .before .if2 .left)) (passes (λ (k : ℕ). proper upd17132) (a .sheet .now) (c .before .before .before .before .before .before .before .before .entries .result) (c .before .before .before .before .before .before .before .before .entries .ensures .0) (c .before .before .before .before .before .before .enum-told .given .1)) (c .before .before .before .before .before .if3 .left) (c .before .before .before .if4 .left) (fails inputByte (a .inputs .now) (c .before .before .inputs .result) (c .before .before .inputs .ensures .0) (c .enum-told4 .given .0 .0) (c .enum-told4 .given .1)), tt)
+    (inputs-fail (formOf (a .form)) (a .rom .now) (a .sheet .now) (a .inputs .now) (sym (c .before .before .before .before .before .before .before .before .before .before .before .before .rom-count .ensures) ∙ not-false _ (c .before .before .before .before .before .before .before .before .before .before .before .if1 .left)) (sym (c .before .before .before .before .before .before .before .before .before .before .sheet-count .ensures) ∙ not-false _ (c .before .before .before .before .before .before .before .before .before .if2 .left)) (passes entryByte (a .sheet .now) (c .before .before .before .before .before .before .before .before .entries .result) (c .before .before .before .before .before .before .before .before .entries .ensures .0) (c .before .before .before .before .before .before .enum-told .given .1)) (c .before .before .before .before .before .if3 .left) (c .before .before .before .if4 .left) (fails inputByte (a .inputs .now) (c .before .before .inputs .result) (c .before .before .inputs .ensures .0) (c .enum-told4 .given .0 .0) (c .enum-told4 .given .1)), tt)
 
 returns-7 : tie.Need-returns-7
 returns-7 c =
     let a = c .before .before .before .before .before .before .before .before .before .before .before .before .before .before .before .before .args in
     let m = words-bound (length (a .rom .now)) (sym (c .before .before .before .before .before .before .before .before .before .before .before .before .rom-count .ensures) ∙ not-false _ (c .before .before .before .before .before .before .before .before .before .before .before .if1 .left)) in
     let n = entries-bound (length (a .rom .now)) (length (a .sheet .now)) (sym (c .before .before .before .before .before .before .before .before .before .before .sheet-count .ensures) ∙ not-false _ (c .before .before .before .before .before .before .before .before .before .if2 .left)) in
-    (no-fault (formOf (a .form)) (a .rom .now) (a .sheet .now) (a .inputs .now) (sym (c .before .before .before .before .before .before .before .before .before .before .before .before .rom-count .ensures) ∙ not-false _ (c .before .before .before .before .before .before .before .before .before .before .before .if1 .left)) (sym (c .before .before .before .before .before .before .before .before .before .before .sheet-count .ensures) ∙ not-false _ (c .before .before .before .before .before .before .before .before .before .if2 .left)) (passes (λ (k : ℕ). proper upd17132) (a .sheet .now) (c .before .before .before .before .before .before .before .before .entries .result) (c .before .before .before .before .before .before .before .before .entries .ensures .0) (c .before .before .before .before .before .before .enum-told .given .1)) (c .before .before .before .before .before .if3 .left) (c .before .before .before .if4 .left) (passes inputByte (a .inputs .now) (c .before .before .inputs .result) (c .before .before .inputs .ensures .0) (c .enum-told3 .given .1)), (m, omega (arith, m, n)))
+    (no-fault (formOf (a .form)) (a .rom .now) (a .sheet .now) (a .inputs .now) (sym (c .before .before .before .before .before .before .before .before .before .before .before .before .rom-count .ensures) ∙ not-false _ (c .before .before .before .before .before .before .before .before .before .before .before .if1 .left)) (sym (c .before .before .before .before .before .before .before .before .before .before .sheet-count .ensures) ∙ not-false _ (c .before .before .before .before .before .before .before .before .before .if2 .left)) (passes entryByte (a .sheet .now) (c .before .before .before .before .before .before .before .before .entries .result) (c .before .before .before .before .before .before .before .before .entries .ensures .0) (c .before .before .before .before .before .before .enum-told .given .1)) (c .before .before .before .before .before .if3 .left) (c .before .before .before .if4 .left) (passes inputByte (a .inputs .now) (c .before .before .inputs .result) (c .before .before .inputs .ensures .0) (c .enum-told3 .given .1)), (m, omega (arith, m, n)))
 
 pub check-spec : {M : Type 1} → statement M
 check-spec =

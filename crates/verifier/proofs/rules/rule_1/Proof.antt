@@ -1,18 +1,20 @@
+use mathlib.Core.Path.{_∙_}
 use borrow.Author.Tests.{eq-eqb, ne-eqb}
 use Rattle.clearance.specs.Rules.{rule1}
-use Rattle.clearance.proofs.Entries.{level-zero}
+use borrow.Author.Needs.{needs}
 use Rattle.verifier.proofs.rules.rule_1.Statement.{statement}
 use Rattle.verifier.proofs.rules.rule_1.Tie as tie
 
--- src/rules.rt:17:9
 returns : tie.Need-returns
 unfolding rule1
 returns c = simp (ne-eqb _ _ (c .if1 .taken))
 
--- src/rules.rt:13:1
+holds-requires : tie.Need-holds-requires
+holds-requires c κs = search needs
+
 returns-2 : tie.Need-returns-2
 unfolding rule1
-returns-2 c = rw (eq-eqb _ _ (c .if1 .left)) (level-zero (c .before .args .entry))
+returns-2 c = rw (eq-eqb _ _ (c .before .if1 .left)) (c .holds .ensures)
 
 pub rule-1-spec : {M : Type 1} → statement M
-rule-1-spec = tie.close (tie.spec returns returns-2)
+rule-1-spec = tie.close (tie.spec returns holds-requires returns-2)

@@ -2,79 +2,60 @@ use borrow.Author.Needs.{needs}
 use Rattle.verifier.proofs.rules.rule_3.Statement.{statement}
 use Rattle.verifier.proofs.rules.rule_3.Tie as tie
 
--- src/rules.rt:47:25
 enum-told : tie.Need-enum-told
 enum-told c = search needs
 
--- src/rules.rt:48:24
 enum-told-2 : tie.Need-enum-told-2
 enum-told-2 c = search needs
 
--- src/rules.rt:49:24
 enum-known-flow : tie.Need-enum-known-flow
 enum-known-flow c = search needs
 
--- src/rules.rt:50:21
 enum-known-flow-2 : tie.Need-enum-known-flow-2
 enum-known-flow-2 c = search needs
 
--- src/rules.rt:51:26
 enum-told-3 : tie.Need-enum-told-3
 enum-told-3 c = search needs
 
--- src/rules.rt:52:30
 enum-told-4 : tie.Need-enum-told-4
 enum-told-4 c = search needs
 
--- src/rules.rt:53:29
 enum-told-5 : tie.Need-enum-told-5
 enum-told-5 c = search needs
 
--- src/rules.rt:53:29
 table-allowed-requires : tie.Need-table-allowed-requires
 table-allowed-requires c κs = search needs
 
--- src/rules.rt:54:27
 enum-told-6 : tie.Need-enum-told-6
 enum-told-6 c = search needs
 
--- src/rules.rt:55:25
 enum-told-7 : tie.Need-enum-told-7
 enum-told-7 c = search needs
 
--- src/rules.rt:43:1
 returns : tie.Need-returns
 returns c = search needs
 
--- src/rules.rt:43:1
 returns-2 : tie.Need-returns-2
 returns-2 c = search needs
 
--- src/rules.rt:43:1
 returns-3 : tie.Need-returns-3
 returns-3 c = search needs
 
--- src/rules.rt:43:1
 returns-4 : tie.Need-returns-4
 returns-4 c = search needs
 
--- src/rules.rt:43:1
 returns-5 : tie.Need-returns-5
 returns-5 c = search needs
 
--- src/rules.rt:43:1
 returns-6 : tie.Need-returns-6
 returns-6 c = search needs
 
--- src/rules.rt:43:1
 returns-7 : tie.Need-returns-7
 returns-7 c = rw (c .before .enum-told5 .given .1) (c .table-allowed .ensures)
 
--- src/rules.rt:43:1
 returns-8 : tie.Need-returns-8
 returns-8 c = search needs
 
--- src/rules.rt:43:1
 returns-9 : tie.Need-returns-9
 returns-9 c = search needs
 

@@ -1,106 +1,81 @@
 use mathlib.Core.Path.{sym}
-use Rattle.clearance.proofs.Entries.{and-true}
+use mathlib.Core.Bool.{and-true}
 use borrow.Author.Needs.{needs}
 use Rattle.verifier.proofs.rules.rule_4.Statement.{statement}
 use Rattle.verifier.proofs.rules.rule_4.Tie as tie
 
--- src/rules.rt:74:9
 next-requires : tie.Need-next-requires
 next-requires c κs = search needs
 
--- src/rules.rt:76:25
 enum-told : tie.Need-enum-told
 enum-told c = search needs
 
--- src/rules.rt:76:25
 met-requires : tie.Need-met-requires
 met-requires c κs = search needs
 
--- src/rules.rt:77:24
 enum-told-2 : tie.Need-enum-told-2
 enum-told-2 c = search needs
 
--- src/rules.rt:77:24
 skip-met-requires : tie.Need-skip-met-requires
 skip-met-requires c κs = search needs
 
--- src/rules.rt:78:24
 enum-known-flow : tie.Need-enum-known-flow
 enum-known-flow c = search needs
 
--- src/rules.rt:78:31
 met-requires-2 : tie.Need-met-requires-2
 met-requires-2 c κs = search needs
 
--- src/rules.rt:79:21
 enum-known-flow-2 : tie.Need-enum-known-flow-2
 enum-known-flow-2 c = search needs
 
--- src/rules.rt:79:28
 met-requires-3 : tie.Need-met-requires-3
 met-requires-3 c κs = search needs
 
--- src/rules.rt:80:26
 enum-told-3 : tie.Need-enum-told-3
 enum-told-3 c = search needs
 
--- src/rules.rt:81:30
 enum-told-4 : tie.Need-enum-told-4
 enum-told-4 c = search needs
 
--- src/rules.rt:82:29
 enum-told-5 : tie.Need-enum-told-5
 enum-told-5 c = search needs
 
--- src/rules.rt:82:29
 met-requires-4 : tie.Need-met-requires-4
 met-requires-4 c κs = search needs
 
--- src/rules.rt:83:27
 enum-told-6 : tie.Need-enum-told-6
 enum-told-6 c = search needs
 
--- src/rules.rt:83:27
 met-requires-5 : tie.Need-met-requires-5
 met-requires-5 c κs = search needs
 
--- src/rules.rt:84:25
 enum-told-7 : tie.Need-enum-told-7
 enum-told-7 c = search needs
 
--- src/rules.rt:71:1
 returns : tie.Need-returns
 returns c = simp (c .before .enum-told .given .1, sym (c .before .before .before .next .ensures), sym (c .met .ensures), and-true)
 
--- src/rules.rt:71:1
 returns-2 : tie.Need-returns-2
 returns-2 c = rw (c .before .enum-told2 .given .1, sym (c .before .before .before .next .ensures)) (c .skip-met .ensures)
 
--- src/rules.rt:71:1
 returns-3 : tie.Need-returns-3
 returns-3 c = simp (c .before .before .flow .given .1, sym (c .met2 .ensures), and-true)
 
--- src/rules.rt:71:1
 returns-4 : tie.Need-returns-4
 returns-4 c = simp (c .before .before .flow2 .given .1, sym (c .before .before .before .before .next .ensures), sym (c .met3 .ensures), and-true)
 
--- src/rules.rt:71:1
 returns-5 : tie.Need-returns-5
 returns-5 c = search needs
 
--- src/rules.rt:71:1
 returns-6 : tie.Need-returns-6
 returns-6 c = search needs
 
--- src/rules.rt:71:1
 returns-7 : tie.Need-returns-7
 returns-7 c = simp (c .before .enum-told5 .given .1, sym (c .before .before .before .next .ensures), sym (c .met4 .ensures), and-true)
 
--- src/rules.rt:71:1
 returns-8 : tie.Need-returns-8
 returns-8 c = simp (c .before .enum-told6 .given .1, sym (c .before .before .before .next .ensures), sym (c .met5 .ensures), and-true)
 
--- src/rules.rt:71:1
 returns-9 : tie.Need-returns-9
 returns-9 c = search needs
 

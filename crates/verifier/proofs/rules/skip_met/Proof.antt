@@ -1,27 +1,22 @@
 use mathlib.Core.Path.{_∙_, sym}
 use borrow.Author.Tests.{not-true, not-false}
-use Rattle.clearance.proofs.Entries.{and-true}
+use mathlib.Core.Bool.{and-true}
 use borrow.Author.Needs.{needs}
 use Rattle.verifier.proofs.rules.skip_met.Statement.{statement}
 use Rattle.verifier.proofs.rules.skip_met.Tie as tie
 
--- src/rules.rt:64:9
 met-requires : tie.Need-met-requires
 met-requires c κs = search needs
 
--- src/rules.rt:65:9
 returns : tie.Need-returns
 returns c = simp (sym (c .before .met .ensures) ∙ not-true _ (c .if1 .taken))
 
--- src/rules.rt:67:22
 next-requires : tie.Need-next-requires
 next-requires c κs = search needs
 
--- src/rules.rt:67:5
 met-requires-2 : tie.Need-met-requires-2
 met-requires-2 c κs = search needs
 
--- src/rules.rt:61:1
 returns-2 : tie.Need-returns-2
 returns-2 c = simp (sym (c .before .before .before .met .ensures) ∙ not-false _ (c .before .before .if1 .left), sym (c .before .next .ensures), sym (c .met2 .ensures), and-true)
 

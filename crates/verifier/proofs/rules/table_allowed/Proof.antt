@@ -1,16 +1,19 @@
 use borrow.Author.Tests.{eq-eqb, ne-eqb}
-use Rattle.clearance.specs.Entry.{atMost}
+use borrow.Author.Needs.{needs}
 use Rattle.verifier.proofs.rules.table_allowed.Statement.{statement}
 use Rattle.verifier.proofs.rules.table_allowed.Tie as tie
 
--- src/rules.rt:37:9
 returns : tie.Need-returns
 returns c = simp (ne-eqb _ _ (c .if1 .taken))
 
--- src/rules.rt:33:1
+sub-at-most : tie.Need-sub-at-most
+sub-at-most c = search needs
+
+at-most-requires : tie.Need-at-most-requires
+at-most-requires c κs = search needs
+
 returns-2 : tie.Need-returns-2
-unfolding atMost
-returns-2 c = simp (eq-eqb _ _ (c .if1 .left))
+returns-2 c = rw (eq-eqb _ _ (c .before .if1 .left)) (c .at-most .ensures)
 
 pub table-allowed-spec : {M : Type 1} → statement M
-table-allowed-spec = tie.close (tie.spec returns returns-2)
+table-allowed-spec = tie.close (tie.spec returns sub-at-most at-most-requires returns-2)

@@ -1,0 +1,21 @@
+-- What tests that are joined give. The plain equations, `and-true` and the like, stand in mathlib.Core.Bool.
+-- Assumes nothing.
+use mathlib.Core.Path.{_≡_, refl}
+use mathlib.Core.Bool.{Bool, true, false, _&&_, _||_, false≢true}
+
+pub both : (a b : Bool) → (a && b) ≡ true → (a ≡ true) × (b ≡ true)
+both true b e = (refl, e)
+both false b e = absurd (false≢true e)
+
+pub or-left : (a b : Bool) → a ≡ true → (a || b) ≡ true
+or-left true b e = refl
+or-left false b e = absurd (false≢true e)
+
+pub or-right : (a b : Bool) → b ≡ true → (a || b) ≡ true
+or-right true b e = refl
+or-right false b e = e
+
+-- a test that cannot pass fails
+pub not-passed : (b : Bool) → (b ≡ true → ⊥) → b ≡ false
+not-passed true n = absurd (n refl)
+not-passed false n = refl

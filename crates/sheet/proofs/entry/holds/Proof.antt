@@ -1,0 +1,20 @@
+use mathlib.Core.Path.{_∙_, sym}
+use borrow.Author.Needs.{needs}
+use borrow.Author.Tests.{not-true, not-false}
+use Rattle.sheet.specs.Entry.{holds}
+use Rattle.sheet.proofs.entry.holds.Statement.{statement}
+use Rattle.sheet.proofs.entry.holds.Tie as tie
+
+reached-requires : tie.Need-reached-requires
+reached-requires c κs = search needs
+
+returns : tie.Need-returns
+unfolding holds
+returns c = simp (sym (c .before .reached .ensures) ∙ not-true _ (c .if1 .taken))
+
+returns-2 : tie.Need-returns-2
+unfolding holds
+returns-2 c = simp (sym (c .before .reached .ensures) ∙ not-false _ (c .if1 .left))
+
+pub holds-spec : {M : Type 1} → statement M
+holds-spec = tie.close (tie.spec reached-requires returns returns-2)

@@ -1,0 +1,19 @@
+use mathlib.Core.Path.{_∙_, sym}
+use borrow.Author.Needs.{needs}
+use Rattle.sheet.specs.Entry.{proper}
+use Rattle.sheet.proofs.entry.proper.Statement.{statement}
+use Rattle.sheet.proofs.entry.proper.Tie as tie
+
+reached-requires : tie.Need-reached-requires
+reached-requires c κs = search needs
+
+returns : tie.Need-returns
+unfolding proper
+returns c = simp (sym (c .before .reached .ensures) ∙ c .if1 .taken)
+
+returns-2 : tie.Need-returns-2
+unfolding proper
+returns-2 c = simp (sym (c .before .reached .ensures) ∙ c .if1 .left)
+
+pub proper-spec : {M : Type 1} → statement M
+proper-spec = tie.close (tie.spec reached-requires returns returns-2)

@@ -1,0 +1,73 @@
+use mathlib.Core.Path.{_≡_, _∙_, ap, refl, sym}
+use mathlib.Core.Logic.{⊎-elim}
+use Prim.Native.Nat.{_≤_, _-_}
+use lib.Dec.{lit<}
+use lib.ListN.{length}
+use borrow.Author.Needs.{needs}
+use Rattle.memory.specs.Chip.{upd17132}
+use Rattle.sheet.specs.Depths.{withDepths}
+use Rattle.sheet.proofs.Tables.{length-table}
+use Rattle.verifier.proofs.Depths.{Seen, none-yet, passed-by, added, all-seen}
+use Rattle.verifier.proofs.reading.return_depths.Statement.{statement}
+use Rattle.verifier.proofs.reading.return_depths.Tie as tie
+
+abbrev Inv-loop : tie.InvT-loop
+Inv-loop rom sheet depths₀ word₀ depths word = (word ≤ length rom) × (length rom ≤ 1024) × (length depths ≡ 6) × Seen upd17132 rom sheet word depths
+
+abbrev μ-loop : tie.MeasureT-loop
+μ-loop rom sheet depths₀ word₀ depths word = length rom - word
+
+loop-holds : tie.Need-loop-holds Inv-loop μ-loop
+loop-holds c = (search needs, c .before .before .pre, refl, none-yet _ _ _ 6)
+
+cast-loop : tie.Need-cast-loop Inv-loop μ-loop
+cast-loop c = search needs
+
+return-skip-at-requires : tie.Need-return-skip-at-requires Inv-loop μ-loop
+return-skip-at-requires c κs = search needs
+
+entry-at-requires : tie.Need-entry-at-requires Inv-loop μ-loop
+entry-at-requires c κs = search needs
+
+with-depths-requires : tie.Need-with-depths-requires Inv-loop μ-loop
+with-depths-requires c κs = search needs
+
+add-word : tie.Need-add-word Inv-loop μ-loop
+add-word c = search needs
+
+loop-less : tie.Need-loop-less Inv-loop μ-loop
+loop-less c = search needs
+
+loop-again : tie.Need-loop-again Inv-loop μ-loop
+loop-again c =
+    let at = c .before .before .before .loop in
+    let skipping = c .before .return-skip-at .ensures in
+    ⊎-elim
+    (λ w.
+    let more = w .3 ∙ w .2 .ensures ∙ ap (withDepths 5 (at .depths)) (w .1 .ensures) in (
+      search needs,
+      at .inv .1,
+      rw more (length-table 5 (at .depths) _ ∙ at .inv .2),
+      rw more (added _ _ _ _ (at .depths) (sym skipping ∙ w .0 .taken) (rw (at .inv .2) (lit< tt)) (at .inv .3)),
+    ))
+    (λ w. (search needs, at .inv .1, rw (w .1) (at .inv .2), rw (w .1) (passed-by _ _ _ _ _ (sym skipping ∙ w .0 .left) (at .inv .3))))
+    (c .if1 .came)
+
+returns : tie.Need-returns Inv-loop μ-loop
+returns c = all-seen _ _ _ (c .before .loop .word) (c .before .loop .depths) (search needs) (c .before .loop .inv .3)
+
+pub return-depths-spec : {M : Type 1} → statement M
+return-depths-spec =
+    tie.close
+    (tie.spec
+    Inv-loop
+    μ-loop
+    loop-holds
+    cast-loop
+    return-skip-at-requires
+    entry-at-requires
+    with-depths-requires
+    add-word
+    loop-less
+    loop-again
+    returns)

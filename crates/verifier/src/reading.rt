@@ -1,0 +1,71 @@
+// A ROM and its sheet as the rules read them.
+ghost use mathlib.Core.Path.{_≡_};
+ghost use Prim.Native.Nat.{_≤_};
+ghost use lib.ListN.{length};
+ghost use Rattle.memory.specs.Chip.{upd17132};
+ghost use Rattle.flow.specs.Flow.{wordFlow};
+ghost use Rattle.clearance.specs.Rules.{isReturnSkip, flowAt, met};
+ghost use Rattle.verifier.specs.ReturnDepths.{ReturnDepths};
+use crate::LEVELS;
+use flow::Flow;
+use sheet::covers;
+use sheet::entry_at;
+use sheet::with_depths;
+
+// The flow of a word.
+pub fn flow_at(rom: &[u16], word: u16) -> Flow
+    ensures { λ r. ⌜ r ≡ flowAt (now (rom .entry)) word ⌝ }
+{
+    let at = word as usize;
+    if rom.len() <= at {
+        return flow::of_word(0);
+    }
+    flow::of_word(rom[at])
+}
+
+// Whether a word that a rule names lies in the ROM and its entry covers what is asked.
+pub fn met(rom: &[u16], sheet: &[u8], word: u16, asked: u8) -> bool
+    ensures { λ r. ⌜ r ≡ met upd17132 (now (rom .entry)) (now (sheet .entry)) (record { word = word; entry = asked }) ⌝ }
+{
+    if rom.len() <= word as usize {
+        return false;
+    }
+    covers(LEVELS, entry_at(sheet, word), asked)
+}
+
+// RETSK's word.
+const RETSK: u16 = 0b00111_001_1110_0000;
+
+// Whether a word returns with a skip. RETSK alone does, and it has one word, so nothing is decoded.
+fn is_return_skip(word: u16) -> bool
+    ensures { λ r. ⌜ r ≡ isReturnSkip (wordFlow word) ⌝ }
+{
+    word == RETSK
+}
+
+fn return_skip_at(rom: &[u16], word: u16) -> bool
+    ensures { λ r. ⌜ r ≡ isReturnSkip (flowAt (now (rom .entry)) word) ⌝ }
+{
+    let at = word as usize;
+    if rom.len() <= at {
+        return is_return_skip(0);
+    }
+    is_return_skip(rom[at])
+}
+
+// The depths that some reached RETSK holds, in one pass over the ROM.
+pub fn return_depths(rom: &[u16], sheet: &[u8]) -> [bool; 6]
+    requires { ⌜ length (now rom) ≤ 1024 ⌝ }
+    ensures { λ r. ⌜ ReturnDepths upd17132 (now (rom .entry)) (now (sheet .entry)) r ⌝ }
+{
+    let mut depths = [false; 6];
+    let mut word: u16 = 0;
+    while (word as usize) < rom.len() {
+        if return_skip_at(rom, word) {
+            let more = with_depths(LEVELS, depths, entry_at(sheet, word));
+            depths = more;
+        }
+        word += 1;
+    }
+    depths
+}
