@@ -54,10 +54,10 @@ unfoldable pub zeroOf : Bool → Bool → ℕ → Bool
 zeroOf cmp z result = cond (eqb result 0) (cond cmp z true) false
 
 -- "SKT skips when every bit set in n is 1 in m, SKF when every one is 0"; the other four compare m with n4
-unfoldable pub skipsOf : SkipOp → ℕ → ℕ → Bool
-skipsOf Skt m n = eqb (bitAnd m n) n
-skipsOf Skf m n = eqb (bitAnd m n) 0
-skipsOf Ske m n4 = eqb m n4
-skipsOf Skne m n4 = not (eqb m n4)
-skipsOf Skge m n4 = leb n4 m
-skipsOf Sklt m n4 = ltb m n4
+unfoldable pub conditionOf : SkipOp → ℕ → ℕ → Bool
+conditionOf Skt m n = eqb (bitAnd m n) n
+conditionOf Skf m n = eqb (bitAnd m n) 0
+conditionOf Ske m n4 = eqb m n4
+conditionOf Skne m n4 = not (eqb m n4)
+conditionOf Skge m n4 = leb n4 m
+conditionOf Sklt m n4 = ltb m n4

@@ -2,10 +2,9 @@
 ghost use mathlib.Core.Path.{_≡_};
 ghost use mathlib.Core.Bool.{cond};
 ghost use Prim.Native.Nat.{_<_};
-ghost use Rattle.alu.specs.Results.{addOf, subtractOf, operateOf, rotateOf, zeroOf, skipsOf};
+ghost use Rattle.alu.specs.Results.{addOf, subtractOf, rotateOf, zeroOf, conditionOf};
 ghost use Rattle.alu.specs.Decimal.{decimalSum, decimalDifference};
 ghost use Rattle.alu.specs.Rows.{rowDifference};
-use isa::AluOp;
 use isa::SkipOp;
 
 // A result and CY. The result has four bits, unless it is that of logic on bytes that have more.
@@ -130,30 +129,6 @@ pub fn subtract(bcd: bool, a: u8, b: u8, carry: bool) -> Outcome
     }
 }
 
-// The seven operations that have a form r,m and a form m,#n4. Logic leaves CY.
-pub fn operate(op: AluOp, bcd: bool, a: u8, b: u8, carry: bool) -> Outcome
-    ensures { λ r. ⌜ r ≡ operateOf op bcd a b carry ⌝ }
-{
-    match op {
-        AluOp::Add => add(bcd, a, b, false),
-        AluOp::AddC => add(bcd, a, b, carry),
-        AluOp::Sub => subtract(bcd, a, b, false),
-        AluOp::SubC => subtract(bcd, a, b, carry),
-        AluOp::Or => Outcome {
-            result: a | b,
-            carry: carry,
-        },
-        AluOp::And => Outcome {
-            result: a & b,
-            carry: carry,
-        },
-        AluOp::Xor => Outcome {
-            result: a ^ b,
-            carry: carry,
-        },
-    }
-}
-
 // RORC: CY to bit 3, bit 0 to CY.
 pub fn rotate(x: u8, carry: bool) -> Outcome
     ensures { λ r. ⌜ r ≡ rotateOf x carry ⌝ }
@@ -179,7 +154,7 @@ pub fn zero(cmp: bool, z: bool, result: u8) -> bool
 
 // Whether a skip's condition holds of the cell's nibble x.
 pub fn skips(op: SkipOp, x: u8, n4: u8) -> bool
-    ensures { λ r. ⌜ r ≡ skipsOf op x n4 ⌝ }
+    ensures { λ r. ⌜ r ≡ conditionOf op x n4 ⌝ }
 {
     match op {
         SkipOp::Skt => x & n4 == n4,

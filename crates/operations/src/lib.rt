@@ -1,0 +1,17 @@
+// What an instruction makes of the cells: first where its operands stand, then its writes, at these addresses.
+mod arithmetic;
+mod operands;
+mod others;
+
+pub use arithmetic::operate;
+pub use operands::locate;
+pub use others::rorc;
+pub use others::skip;
+pub use others::transfer;
+
+// The effective addresses of an instruction's operands: the cell that the result goes to, and the cell that it is taken from. 128,
+// which no cell has, where there is none.
+pub struct Addresses {
+    pub to: u8,
+    pub from: u8,
+}
