@@ -1,7 +1,10 @@
 // The single step and the counted run.
+mod execution;
 mod running;
 mod stepping;
 
+ghost use mathlib.Core.Path.{_≡_};
+ghost use Rattle.cpu.specs.Answers.{endOf, replyNumber, replyOf};
 use machine::Machine;
 use machine::Refusal;
 pub use running::run;
@@ -15,9 +18,23 @@ pub enum Answer {
     Refused(Refusal),
 }
 
+impl Answer {
+    // 0 for a completed step, 255 for one that stays in standby, else the refusal.
+    pub fn number(self) -> u8
+        ensures { λ r. ⌜ r ≡ replyNumber (replyOf self) ⌝ }
+    {
+        match self {
+            Answer::Done => 0,
+            Answer::Standby => 255,
+            Answer::Refused(refusal) => refusal.number(),
+        }
+    }
+}
+
+// The machine after a step, and its answer.
 pub struct Stepped {
-    pub answer: Answer,
     pub machine: Machine,
+    pub answer: Answer,
 }
 
 // How a run ended.
@@ -27,15 +44,28 @@ pub enum End {
     Refused(Refusal),
 }
 
+impl End {
+    // The refusal, 0 for none.
+    pub fn number(self) -> u8
+        ensures { λ r. ⌜ r ≡ endOf self ⌝ }
+    {
+        match self {
+            End::Completed => 0,
+            End::Refused(refusal) => refusal.number(),
+        }
+    }
+}
+
 pub struct Report {
     // The steps completed.
     pub steps: u32,
     pub end: End,
 }
 
+// The machine after a run, and its report.
 pub struct Ran {
-    pub report: Report,
     pub machine: Machine,
+    pub report: Report,
 }
 
 // What a fetch finds.
@@ -44,9 +74,9 @@ enum Fetched {
     Past,
 }
 
-// How far a run went: the steps completed, the last step's answer, and the machine.
-struct Gone {
+// Where the steps of a run ended: the machine, the steps completed, and the last step's answer.
+struct Ended {
+    machine: Machine,
     steps: u32,
     answer: Answer,
-    machine: Machine,
 }
