@@ -21,10 +21,7 @@ fn pointer(cells: &[u8; 128], pins: &[u8; 5], directions: &[u8; 5], m: u8, r: u8
 fn both(to: u8, from: u8) -> Addresses
     ensures { λ a. ⌜ a ≡ record { to = to; from = from } ⌝ }
 {
-    Addresses {
-        to: to,
-        from: from,
-    }
+    Addresses { to: to, from: from }
 }
 
 fn no_operands() -> Addresses
@@ -51,10 +48,16 @@ pub fn locate(
         Instruction::Ld { r, m } => both(memory::register(cells, r), memory::address(cells, m)),
         Instruction::St { m, r } => both(memory::address(cells, m), memory::register(cells, r)),
         Instruction::MovToIndirect { r, m } => {
-            both(pointer(cells, pins, directions, m, r), memory::address(cells, m))
+            both(
+                pointer(cells, pins, directions, m, r),
+                memory::address(cells, m),
+            )
         }
         Instruction::MovFromIndirect { m, r } => {
-            both(memory::address(cells, m), pointer(cells, pins, directions, m, r))
+            both(
+                memory::address(cells, m),
+                pointer(cells, pins, directions, m, r),
+            )
         }
         Instruction::MovImmediate { m, n4: _ } => both(memory::address(cells, m), NO_CELL),
         Instruction::Peek(_) => no_operands(),

@@ -1,12 +1,9 @@
 use Rattle.memory.specs.Write.{writesApplied}
 use borrow.Author.Tests.{eq-eqb, ne-eqb}
-use Rattle.operations.specs.Writes.{writesOf, rotateWrites}
+use Rattle.operations.specs.Writes.{rotateWrites}
 use borrow.Author.Needs.{needs}
 use Rattle.operations.proofs.others.rorc.Statement.{statement}
 use Rattle.operations.proofs.others.rorc.Tie as tie
-
-register-requires : tie.Need-register-requires
-register-requires c κs = search needs
 
 read-requires : tie.Need-read-requires
 read-requires c κs = search needs
@@ -21,8 +18,8 @@ store-requires : tie.Need-store-requires
 store-requires c κs = search needs
 
 returns : tie.Need-returns
-unfolding writesOf rotateWrites writesApplied
-returns c = rw (← c .before .before .before .before .before .before .before .before .register .ensures, ← c .before .before .before .before .before .before .read .ensures, ← c .before .before .before .before .is-set .ensures, ← c .before .before .before .rotate .ensures, eq-eqb _ _ (c .before .before .if1 .taken), c .store .ensures)
+unfolding rotateWrites writesApplied
+returns c = rw (← c .before .before .before .before .before .before .read .ensures, ← c .before .before .before .before .is-set .ensures, ← c .before .before .before .rotate .ensures, eq-eqb _ _ (c .before .before .if1 .taken), c .store .ensures)
 
 cast-with-flag : tie.Need-cast-with-flag
 cast-with-flag c = search needs
@@ -40,14 +37,13 @@ store-requires-3 : tie.Need-store-requires-3
 store-requires-3 c κs = search needs
 
 returns-2 : tie.Need-returns-2
-unfolding writesOf rotateWrites writesApplied
-returns-2 c = rw (← c .before .before .before .before .before .before .before .before .before .before .before .before .register .ensures, ← c .before .before .before .before .before .before .before .before .before .before .read .ensures, ← c .before .before .before .before .before .before .before .before .is-set .ensures, ← c .before .before .before .before .before .before .before .rotate .ensures, ne-eqb _ _ (c .before .before .before .before .before .before .if1 .left), c .store3 .ensures, c .before .before .store2 .ensures, c .before .before .before .before .with-flag .ensures)
+unfolding rotateWrites writesApplied
+returns-2 c = rw (← c .before .before .before .before .before .before .before .before .before .before .read .ensures, ← c .before .before .before .before .before .before .before .before .is-set .ensures, ← c .before .before .before .before .before .before .before .rotate .ensures, ne-eqb _ _ (c .before .before .before .before .before .before .if1 .left), c .store3 .ensures, c .before .before .store2 .ensures, c .before .before .before .before .with-flag .ensures)
 
 pub rorc-spec : {M : Type 1} → statement M
 rorc-spec =
     tie.close
     (tie.spec
-    register-requires
     read-requires
     is-set-requires
     rotate-requires

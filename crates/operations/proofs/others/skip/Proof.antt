@@ -1,10 +1,6 @@
-use Rattle.operations.specs.Writes.{writesOf, skipsOf}
 use borrow.Author.Needs.{needs}
 use Rattle.operations.proofs.others.skip.Statement.{statement}
 use Rattle.operations.proofs.others.skip.Tie as tie
-
-address-requires : tie.Need-address-requires
-address-requires c κs = search needs
 
 read-requires : tie.Need-read-requires
 read-requires c κs = search needs
@@ -16,9 +12,8 @@ skips-requires : tie.Need-skips-requires
 skips-requires c κs = search needs
 
 returns : tie.Need-returns
-unfolding writesOf skipsOf
-returns c = (c .before .clear-cmp .ensures, rw (c .skips .ensures, c .before .before .before .read .ensures, c .before .before .before .before .before .address .ensures))
+returns c = (c .before .clear-cmp .ensures, rw (c .skips .ensures, c .before .before .before .read .ensures))
 
 pub skip-spec : {M : Type 1} → statement M
 skip-spec =
-    tie.close (tie.spec address-requires read-requires clear-cmp-requires skips-requires returns)
+    tie.close (tie.spec read-requires clear-cmp-requires skips-requires returns)
