@@ -6,9 +6,11 @@ use mathlib.Core.List.{List}
 use Prim.Native.Nat.{ℕ}
 use native.Mathlib.Omega.{arith}
 use lib.Dec.{eqb}
+use lib.ListN.{getD}
 use Rattle.isa.specs.declared.Instruction.{Instruction}
 use Rattle.memory.specs.Chip.{Chip}
 use Rattle.memory.specs.Registers.{arOf}
+use Rattle.memory.specs.Write.{writesApplied}
 use Rattle.machine.specs.Parts.{machineOf}
 use Rattle.machine.specs.Refusals.{numberOf}
 use Rattle.machine.specs.declared.Control.{Control}
@@ -16,14 +18,17 @@ use Rattle.machine.specs.declared.Input.{Input}
 use Rattle.machine.specs.declared.Machine.{Machine}
 use Rattle.machine.specs.declared.Refusal.{Refusal}
 use Rattle.machine.specs.declared.Refusal.the-variants.{OutOfRange, PastRom, NoInstruction, Unsupported, BadTarget, StackFull, StackEmpty, PastTable}
-use Rattle.control.specs.Control.{Transfer, goes, refusedControl, controlOf}
+use Rattle.control.specs.Control.{Transfer, goes, refusedControl, topOf}
 use Rattle.control.specs.Flow.{flowOf}
 use Rattle.control.specs.Transfers.{transferOf, withStack}
 use Rattle.control.specs.declared.Regs.{Regs}
 use Rattle.control.specs.declared.Transfer as code
 use Rattle.control.specs.declared.Transfer.the-variants.{To, Refused}
 use Rattle.control.proofs.Keeps.{Keeps, keeps}
-use Rattle.operations.specs.Writes.{holdsOf}
+use Rattle.operations.specs.Data.{Data}
+use Rattle.operations.specs.Operands.{addressesOf}
+use Rattle.operations.specs.Writes.{holdsAt, holdsOf, writesAt, writesOf}
+use Rattle.operations.specs.declared.Addresses.{Addresses}
 use Rattle.cpu.specs.Execute.{executeOf, writtenOf, transferBy, pastTable, dataOf}
 use Rattle.cpu.specs.Joined.{executedOf, wholeOf}
 use Rattle.cpu.specs.Reply.{completedStep, refusedStep}
@@ -38,12 +43,25 @@ number-not-0 StackFull = refl
 number-not-0 StackEmpty = refl
 number-not-0 PastTable = refl
 
+-- a skip's condition at the address that was found
+pub told : (chip : Chip) (d : Data) (i : Instruction) (a : Addresses) → a ≡ addressesOf chip d i → holdsAt chip d a i ≡ holdsOf chip d i
+unfolding holdsOf
+told chip d i a found = rw (← found)
+
 module _ (chip : Chip) (rom : List ℕ) (input : Input) (cells stack : List ℕ) (regs : Regs) (i : Instruction) where
   abbrev before : Machine
   before = wholeOf cells stack regs
 
   abbrev shift : Transfer
   shift = transferBy chip rom input i before
+
+  -- the writes at the addresses that were found
+  module _ (a : Addresses) (found : a ≡ addressesOf chip (dataOf before input) i) where
+    pub written : (after : List ℕ)
+        → after ≡ writesApplied chip cells (writesAt chip (dataOf before input) a i (topOf (withStack stack regs)) (getD rom (arOf cells) 0))
+        → after ≡ writtenOf chip rom input i before
+    unfolding writtenOf writesOf
+    written after e = rw (← found) e
 
   -- control goes on, and no table is missed
   pub completes : (after left : List ℕ) (r : Regs) → goes (withStack left r) ≡ shift → pastTable rom (arOf cells) (flowOf i) ≡ false

@@ -1,18 +1,18 @@
 use mathlib.Core.Path.{_∙_, ap}
 use Prim.Native.Nat.{ℕ}
 use Rattle.memory.specs.Chip.{upd17132}
-use Rattle.control.specs.Control.{goes, jump, callOf, pushOf}
-use Rattle.control.specs.Moves.{withStack}
-use Rattle.execution.specs.Execute.{executeOf}
+use Rattle.control.specs.Control.{goes, jumpTo, callOf, pushOf}
+use Rattle.control.specs.Transfers.{withStack}
+use Rattle.cpu.specs.Execute.{executeOf}
 use mathlib.Core.Path.{refl}
-use Rattle.execution.proofs.Settled.{completes, moves}
+use Rattle.cpu.proofs.Settled.{completes, moves}
 use Rattle.memory.specs.Write.{writesApplied}
 use Rattle.control.specs.Control.{controlOf}
-use Rattle.data.specs.Data.{writesOf, skipsOf}
-use Rattle.execution.specs.Execute.{writtenOf, pastTable}
+use Rattle.operations.specs.Writes.{writesAt, writesOf}
+use Rattle.cpu.specs.Execute.{writtenOf, transferBy, pastTable}
 use borrow.Author.Needs.{needs}
-use Rattle.execution.proofs.fixed.Statement.{statement}
-use Rattle.execution.proofs.fixed.Tie as tie
+use Rattle.cpu.proofs.execution.fixed.Statement.{statement}
+use Rattle.cpu.proofs.execution.fixed.Tie as tie
 
 enum-told : tie.Need-enum-told
 enum-told c = search needs
@@ -24,7 +24,7 @@ onward-requires : tie.Need-onward-requires
 onward-requires c κs = search needs
 
 returns : tie.Need-returns
-unfolding controlOf skipsOf pastTable writtenOf writesOf writesApplied
+unfolding transferBy controlOf pastTable writtenOf writesOf writesAt writesApplied
 returns c = λ input. rw (c .before .before .before .enum-told .given .1) (completes _ _ input _ _ _ _ _ _ _ (c .onward .ensures _) refl (c .before .increment-ar .ensures))
 
 enum-told-2 : tie.Need-enum-told-2
@@ -37,7 +37,7 @@ onward-requires-2 : tie.Need-onward-requires-2
 onward-requires-2 c κs = search needs
 
 returns-2 : tie.Need-returns-2
-unfolding controlOf skipsOf pastTable writtenOf writesOf writesApplied
+unfolding transferBy controlOf pastTable writtenOf writesOf writesAt writesApplied
 returns-2 c = λ input. rw (c .before .before .before .enum-told2 .given .1) (completes _ _ input _ _ _ _ _ _ _ (c .onward2 .ensures _) refl (c .before .increment-ix .ensures))
 
 enum-told-3 : tie.Need-enum-told-3
@@ -47,7 +47,7 @@ movt-requires : tie.Need-movt-requires
 movt-requires c κs = search needs
 
 returns-3 : tie.Need-returns-3
-unfolding controlOf skipsOf pastTable writtenOf writesOf writesApplied
+unfolding transferBy controlOf pastTable writtenOf writesOf writesAt writesApplied
 returns-3 c = λ input. rw (c .before .before .enum-told3 .given .1) (c .movt .ensures input _)
 
 enum-told-4 : tie.Need-enum-told-4
@@ -60,7 +60,7 @@ push-requires : tie.Need-push-requires
 push-requires c κs = search needs
 
 returns-4 : tie.Need-returns-4
-unfolding controlOf skipsOf pastTable writtenOf writesOf writesApplied
+unfolding transferBy controlOf pastTable writtenOf writesOf writesAt writesApplied
 returns-4 c = λ input.
     let s = c .before .before .before .before .before .before .before .args in
     rw (c .before .before .before .before .enum-told4 .given .1)
@@ -74,7 +74,7 @@ pop-ar-requires : tie.Need-pop-ar-requires
 pop-ar-requires c κs = search needs
 
 returns-5 : tie.Need-returns-5
-unfolding controlOf skipsOf pastTable writtenOf writesOf writesApplied
+unfolding transferBy controlOf pastTable writtenOf writesOf writesAt writesApplied
 returns-5 c = λ input. rw (c .before .before .before .enum-told5 .given .1) (c .pop-ar .ensures _ input)
 
 enum-told-6 : tie.Need-enum-told-6
@@ -87,12 +87,12 @@ jump-requires : tie.Need-jump-requires
 jump-requires c κs = search needs
 
 returns-6 : tie.Need-returns-6
-unfolding controlOf skipsOf pastTable writtenOf writesOf writesApplied
+unfolding transferBy controlOf pastTable writtenOf writesOf writesAt writesApplied
 returns-6 c = λ input.
     let s = c .before .before .before .before .before .before .args in
     rw (c .before .before .before .enum-told6 .given .1)
     (completes _ _ input _ _ _ _ _ _ _
-    (ap goes (c .jump .ensures (s .stack .now) ∙ ap (λ (n : ℕ). jump n (withStack (s .stack .now) (s .regs))) (c .before .ar2 .ensures)))
+    (ap goes (c .jump .ensures (s .stack .now) ∙ ap (λ (n : ℕ). jumpTo n (withStack (s .stack .now) (s .regs))) (c .before .ar2 .ensures)))
     refl refl)
 
 enum-told-7 : tie.Need-enum-told-7
@@ -105,7 +105,7 @@ call-requires : tie.Need-call-requires
 call-requires c κs = search needs
 
 returns-7 : tie.Need-returns-7
-unfolding controlOf skipsOf pastTable writtenOf writesOf writesApplied
+unfolding transferBy controlOf pastTable writtenOf writesOf writesAt writesApplied
 returns-7 c = λ input.
     let s = c .before .before .before .before .before .before .before .args in
     rw (c .before .before .before .before .enum-told7 .given .1)
@@ -119,7 +119,7 @@ ret-requires : tie.Need-ret-requires
 ret-requires c κs = search needs
 
 returns-8 : tie.Need-returns-8
-unfolding controlOf skipsOf pastTable writtenOf writesOf writesApplied
+unfolding transferBy controlOf pastTable writtenOf writesOf writesAt writesApplied
 returns-8 c = λ input. rw (c .before .before .enum-told8 .given .1) (moves _ _ input _ _ _ _ (c .ret .result) (c .ret .last .0) (c .ret .ensures) refl refl)
 
 enum-told-9 : tie.Need-enum-told-9
@@ -129,28 +129,28 @@ ret-requires-2 : tie.Need-ret-requires-2
 ret-requires-2 c κs = search needs
 
 returns-9 : tie.Need-returns-9
-unfolding controlOf skipsOf pastTable writtenOf writesOf writesApplied
+unfolding transferBy controlOf pastTable writtenOf writesOf writesAt writesApplied
 returns-9 c = λ input. rw (c .before .before .enum-told9 .given .1) (moves _ _ input _ _ _ _ (c .ret2 .result) (c .ret2 .last .0) (c .ret2 .ensures) refl refl)
 
 enum-told-10 : tie.Need-enum-told-10
 enum-told-10 c = search needs
 
 returns-10 : tie.Need-returns-10
-unfolding controlOf skipsOf pastTable writtenOf writesOf writesApplied executeOf
+unfolding transferBy controlOf pastTable writtenOf writesOf writesAt writesApplied executeOf
 returns-10 c = λ input. rw (c .enum-told10 .given .1)
 
 enum-told-11 : tie.Need-enum-told-11
 enum-told-11 c = search needs
 
 returns-11 : tie.Need-returns-11
-unfolding controlOf skipsOf pastTable writtenOf writesOf writesApplied executeOf
+unfolding transferBy controlOf pastTable writtenOf writesOf writesAt writesApplied executeOf
 returns-11 c = λ input. rw (c .enum-told11 .given .1)
 
 enum-told-12 : tie.Need-enum-told-12
 enum-told-12 c = search needs
 
 returns-12 : tie.Need-returns-12
-unfolding controlOf skipsOf pastTable writtenOf writesOf writesApplied executeOf
+unfolding transferBy controlOf pastTable writtenOf writesOf writesAt writesApplied executeOf
 returns-12 c = λ input. rw (c .enum-told12 .given .1)
 
 enum-told-13 : tie.Need-enum-told-13
@@ -160,7 +160,7 @@ onward-requires-3 : tie.Need-onward-requires-3
 onward-requires-3 c κs = search needs
 
 returns-13 : tie.Need-returns-13
-unfolding controlOf skipsOf pastTable writtenOf writesOf writesApplied
+unfolding transferBy controlOf pastTable writtenOf writesOf writesAt writesApplied
 returns-13 c = λ input. rw (c .before .enum-told13 .given .1) (completes _ _ input _ _ _ _ _ _ _ (c .onward3 .ensures _) refl refl)
 
 pub fixed-spec : {M : Type 1} → statement M

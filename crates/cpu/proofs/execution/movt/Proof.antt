@@ -1,23 +1,23 @@
-use Rattle.execution.proofs.Settled.{completes, misses, refuses}
+use Rattle.cpu.proofs.Settled.{completes, misses, refuses}
 use Rattle.control.specs.Control.{controlOf}
-use Rattle.data.specs.Data.{writesOf, skipsOf}
-use Rattle.execution.specs.Execute.{writtenOf, pastTable}
+use Rattle.operations.specs.Writes.{writesAt, writesOf}
+use Rattle.cpu.specs.Execute.{writtenOf, transferBy, pastTable}
 use borrow.Author.Tests.{le-leb, lt-leb}
 use borrow.Author.Needs.{needs}
-use Rattle.execution.proofs.movt.Statement.{statement}
-use Rattle.execution.proofs.movt.Tie as tie
+use Rattle.cpu.proofs.execution.movt.Statement.{statement}
+use Rattle.cpu.proofs.execution.movt.Tie as tie
 
 table-requires : tie.Need-table-requires
 table-requires c κs = search needs
 
-enum-known-moved : tie.Need-enum-known-moved
-enum-known-moved c = search needs
+enum-known-transfer : tie.Need-enum-known-transfer
+enum-known-transfer c = search needs
 
 enum-told : tie.Need-enum-told
 enum-told c = search needs
 
 returns : tie.Need-returns
-unfolding controlOf skipsOf pastTable writtenOf writesOf
+unfolding transferBy controlOf pastTable writtenOf writesOf writesAt
 returns c = λ input stack.
     let g = c .enum-told .given in
     rw (g .1) (refuses _ _ input _ stack _ _ (g .0 .0) stack (rw (g .1) at (c .before .before .table .ensures stack)))
@@ -29,9 +29,9 @@ cast-ar : tie.Need-cast-ar
 cast-ar c = search needs
 
 returns-2 : tie.Need-returns-2
-unfolding controlOf skipsOf pastTable writtenOf writesOf
+unfolding transferBy controlOf pastTable writtenOf writesOf writesAt
 returns-2 c = λ input stack.
-    let g = c .before .before .before .before .moved .given in
+    let g = c .before .before .before .before .transfer .given in
     misses _ _ input _ stack _ _ stack (g .0 .0) (rw (g .1) at (c .before .before .before .before .before .before .table .ensures stack))
     (rw (← c .before .ar .ensures) (le-leb _ _ (c .if1 .taken)))
 
@@ -45,9 +45,9 @@ write-buffer-requires : tie.Need-write-buffer-requires
 write-buffer-requires c κs = search needs
 
 returns-3 : tie.Need-returns-3
-unfolding controlOf skipsOf pastTable writtenOf writesOf
+unfolding transferBy controlOf pastTable writtenOf writesOf writesAt
 returns-3 c = λ input stack.
-    let g = c .before .before .before .before .before .before .before .moved .given in
+    let g = c .before .before .before .before .before .before .before .transfer .given in
     completes _ _ input _ stack _ _ _ stack (g .0 .0) (rw (g .1) at (c .before .before .before .before .before .before .before .before .before .table .ensures stack))
     (rw (← c .before .before .before .before .ar .ensures) (lt-leb _ _ (c .before .before .before .if1 .left)))
     (rw (← c .before .before .before .before .ar .ensures) (c .write-buffer .ensures))
@@ -57,7 +57,7 @@ movt-spec =
     tie.close
     (tie.spec
     table-requires
-    enum-known-moved
+    enum-known-transfer
     enum-told
     returns
     ar-requires
