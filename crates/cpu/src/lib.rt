@@ -56,16 +56,11 @@ impl End {
     }
 }
 
-pub struct Report {
-    // The steps completed.
-    pub steps: u32,
-    pub end: End,
-}
-
-// The machine after a run, and its report.
+// The machine after a run, the steps that it completed, and how it ended.
 pub struct Ran {
     pub machine: Machine,
-    pub report: Report,
+    pub steps: u32,
+    pub end: End,
 }
 
 // What a fetch finds.

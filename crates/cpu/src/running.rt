@@ -9,7 +9,6 @@ use crate::Answer;
 use crate::End;
 use crate::Ended;
 use crate::Ran;
-use crate::Report;
 use crate::Stepped;
 use crate::stepping::advance;
 use crate::stepping::join;
@@ -91,10 +90,8 @@ pub fn run(rom: &[u16], machine: Machine, input: Input, budget: u32) -> Ran
     let after = last.machine;
     Ran {
         machine: after,
-        report: Report {
-            steps: last.steps,
-            end: end_of(answer),
-        },
+        steps: last.steps,
+        end: end_of(answer),
     }
 }
 

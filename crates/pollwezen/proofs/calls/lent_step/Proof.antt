@@ -1,0 +1,17 @@
+use mathlib.Core.Path.{_∙_, ap}
+use borrow.Author.Needs.{needs}
+use Rattle.pollwezen.specs.Lent.{lentStepOf}
+use Rattle.pollwezen.proofs.calls.lent_step.Statement.{statement}
+use Rattle.pollwezen.proofs.calls.lent_step.Tie as tie
+
+step-requires : tie.Need-step-requires
+step-requires c κs = search needs
+
+number-requires : tie.Need-number-requires
+number-requires c κs = search needs
+
+returns : tie.Need-returns
+returns c = rw (c .number .ensures) (ap lentStepOf (c .before .before .step .ensures))
+
+pub lent-step-spec : {M : Type 1} → statement M
+lent-step-spec = tie.close (tie.spec step-requires number-requires returns)
