@@ -7,7 +7,7 @@ use Prim.Native.Nat.{ℕ, zero, suc, _+_, _-_, _<_, _≤_}
 use native.Mathlib.Omega.{arith}
 use lib.Dec.{eqb}
 use Rattle.memory.specs.Chip.{Chip}
-use Rattle.cpu.specs.Reply.{Reply, done, inStandby, refused, refusalOf, Step, completedStep, standingStep, refusedStep}
+use Rattle.cpu.specs.Reply.{Reply, done, inStandby, refused, costOf, refusalOf, Step, completedStep, standingStep, refusedStep}
 use Rattle.machine.specs.Ranges.{allInRange, machineInRange, places}
 use Rattle.cpu.specs.Run.{runFrom, runOf, ended}
 use Rattle.cpu.specs.Step.{isStanding, stepOf, advanceOf}
@@ -31,14 +31,16 @@ pub record Going (chip : Chip) (rom : List ℕ) (input : Input) (budget : ℕ) (
 pub record Ends (chip : Chip) (rom : List ℕ) (input : Input) (budget : ℕ) (start : Machine) (steps : ℕ) (r : Reply) (m : Machine) : Type 0 where
   pub run : ended steps (refusalOf r) m ≡ runOf chip rom input budget start
   pub step : budget ≡ 1 → record { reply = r; machine = m } ≡ stepOf chip rom input start
+  pub cost : budget ≡ 1 → steps ≡ costOf r .steps
 
 module _ (chip : Chip) (rom : List ℕ) (input : Input) (budget : ℕ) (start : Machine) where
   pub not-so-many : 65535 < budget → Ends chip rom input budget start 0 (refused 1) start
-  not-so-many h = record { run = budget-refused chip rom input budget start h; step = λ e. absurd (omega arith) }
+  not-so-many h =
+      record { run = budget-refused chip rom input budget start h; step = λ e. absurd (omega arith); cost = λ e. refl }
 
   pub not-in-range : allInRange chip rom start input ≡ false → Ends chip rom input budget start 0 (refused 1) start
   not-in-range r =
-      record { run = range-refused chip rom input budget start r; step = λ e. step-refused chip rom input start r }
+      record { run = range-refused chip rom input budget start r; step = λ e. step-refused chip rom input start r; cost = λ e. refl }
 
   module _ (small : budget ≤ 65535) (fine : allInRange chip rom start input ≡ true) where
     stood-by : (n : ℕ) → standingStep start ≡ advanceOf chip rom input start
@@ -53,7 +55,7 @@ module _ (chip : Chip) (rom : List ℕ) (input : Input) (budget : ℕ) (start : 
     pub stays-so : (isStanding start && eqb (input .release) 0) ≡ true → Ends chip rom input budget start 0 inStandby start
     stays-so s =
         let e = stays chip rom input start s in
-        record { run = stood-by budget e ∙ begins chip rom input budget start small fine; step = λ w. e ∙ sym (step-advances chip rom input start fine) }
+        record { run = stood-by budget e ∙ begins chip rom input budget start small fine; step = λ w. e ∙ sym (step-advances chip rom input start fine); cost = λ w. refl }
 
     pub begun : (isStanding start && eqb (input .release) 0) ≡ false → Going chip rom input budget start 0 start
     begun a = record {
@@ -68,7 +70,11 @@ module _ (chip : Chip) (rom : List ℕ) (input : Input) (budget : ℕ) (start : 
 module _ (chip : Chip) (rom : List ℕ) (input : Input) (budget : ℕ) (start : Machine) (steps : ℕ) (m : Machine)
     (g : Going chip rom input budget start steps m) where
   pub used : budget ≤ steps → Ends chip rom input budget start steps done m
-  used h = record { run = sym (used-up chip rom input budget steps m h) ∙ g .rest; step = λ e. g .one (omega arith) }
+  used h = record {
+    run = sym (used-up chip rom input budget steps m h) ∙ g .rest;
+    step = λ e. g .one (omega arith);
+    cost = λ e. omega (arith, g .some);
+  }
 
   module _ (more : steps < budget) where
     first : (s : Step) → s ≡ advanceOf chip rom input m → steps ≡ 0 → s ≡ stepOf chip rom input start
@@ -79,6 +85,7 @@ module _ (chip : Chip) (rom : List ℕ) (input : Input) (budget : ℕ) (start : 
     stood after e b = record {
       run = sym (stands chip rom input budget steps more m (g .fine) after e b) ∙ g .rest;
       step = λ w. first (completedStep after) e (omega arith);
+      cost = λ w. omega arith;
     }
 
     pub refuses : (n : ℕ) (after : Machine) → refusedStep n after ≡ advanceOf chip rom input m
@@ -86,6 +93,7 @@ module _ (chip : Chip) (rom : List ℕ) (input : Input) (budget : ℕ) (start : 
     refuses n after e = record {
       run = sym (breaks-off chip rom input budget steps more m (g .fine) (refused n) after e (λ w. let z : _≡_ {A = ℕ} 0 1 = cc in omega arith)) ∙ g .rest;
       step = λ w. first (refusedStep n after) e (omega arith);
+      cost = λ w. omega arith;
     }
 
     pub going : (levels : chip .levels ≤ places) → ArFits chip

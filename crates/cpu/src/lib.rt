@@ -31,9 +31,10 @@ impl Answer {
     }
 }
 
-// The machine after a step, and its answer.
+// The machine after steps up to a refusal, standby or the budget; how many of them were completed; and the last one's answer.
 pub struct Stepped {
     pub machine: Machine,
+    pub steps: u32,
     pub answer: Answer,
 }
 
@@ -67,11 +68,4 @@ pub struct Ran {
 enum Fetched {
     Word(u16),
     Past,
-}
-
-// Where the steps of a run ended: the machine, the steps completed, and the last step's answer.
-struct Ended {
-    machine: Machine,
-    steps: u32,
-    answer: Answer,
 }

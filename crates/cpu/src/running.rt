@@ -2,12 +2,11 @@
 ghost use mathlib.Core.Path.{_≡_};
 ghost use Rattle.memory.specs.Chip.{upd17132};
 ghost use Rattle.cpu.specs.Answers.{endOf, replyOf, runOfRan, stepOfStepped};
-ghost use Rattle.cpu.specs.Reply.{refusalOf};
+ghost use Rattle.cpu.specs.Reply.{costOf, refusalOf};
 ghost use Rattle.cpu.specs.Run.{runOf, ended};
 ghost use Rattle.cpu.specs.Step.{stepOf};
 use crate::Answer;
 use crate::End;
-use crate::Ended;
 use crate::Ran;
 use crate::Stepped;
 use crate::stepping::advance;
@@ -31,10 +30,10 @@ fn end_of(answer: Answer) -> End
     }
 }
 
-fn so_far(machine: Machine, steps: u32, answer: Answer) -> Ended
+fn so_far(machine: Machine, steps: u32, answer: Answer) -> Stepped
     ensures { λ r. ⌜ r ≡ record { machine = machine; steps = steps; answer = answer } ⌝ }
 {
-    Ended {
+    Stepped {
         machine: machine,
         steps: steps,
         answer: answer,
@@ -43,9 +42,10 @@ fn so_far(machine: Machine, steps: u32, answer: Answer) -> Ended
 
 // Steps up to a refusal, standby or the budget. The range is tested once; each step keeps it. It serves the run and the
 // step, so that `advance` has one caller and is inlined there.
-fn go(rom: &[u16], machine: Machine, input: Input, budget: u32) -> Ended
+fn go(rom: &[u16], machine: Machine, input: Input, budget: u32) -> Stepped
     ensures { λ r. ⌜ ended (r .steps) (refusalOf (replyOf (r .answer))) (r .machine) ≡ runOf upd17132 (now (rom .entry)) input budget machine ⌝ }
     ensures { λ r. ⌜ (budget ≡ 1 → record { reply = replyOf (r .answer); machine = r .machine } ≡ stepOf upd17132 (now (rom .entry)) input machine) ⌝ }
+    ensures { λ r. ⌜ (budget ≡ 1 → r .steps ≡ costOf (replyOf (r .answer)) .steps) ⌝ }
 {
     if 65535 < budget {
         return so_far(machine, 0, Answer::Refused(Refusal::OutOfRange));
@@ -95,15 +95,10 @@ pub fn run(rom: &[u16], machine: Machine, input: Input, budget: u32) -> Ran
     }
 }
 
-// One step.
+// One step: the run of one, with its answer.
 pub fn step(rom: &[u16], machine: Machine, input: Input) -> Stepped
     ensures { λ r. ⌜ stepOfStepped r ≡ stepOf upd17132 (now (rom .entry)) input machine ⌝ }
+    ensures { λ r. ⌜ r .steps ≡ costOf (stepOf upd17132 (now (rom .entry)) input machine .reply) .steps ⌝ }
 {
-    let last = go(rom, machine, input, 1);
-    let answer = last.answer;
-    let after = last.machine;
-    Stepped {
-        machine: after,
-        answer: answer,
-    }
+    go(rom, machine, input, 1)
 }

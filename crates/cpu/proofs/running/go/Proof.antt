@@ -66,7 +66,7 @@ so-far-requires c κs = search needs
 returns : tie.Need-returns Inv-loop μ-loop
 returns c =
     let e = not-so-many _ _ _ _ _ (c .before .if1 .taken) in
-    rw (c .so-far .ensures) (e .run, e .step)
+    rw (c .so-far .ensures) (e .run, (e .step, e .cost))
 
 all-requires : tie.Need-all-requires Inv-loop μ-loop
 all-requires c κs = search needs
@@ -77,7 +77,7 @@ so-far-requires-2 c κs = search needs
 returns-2 : tie.Need-returns-2 Inv-loop μ-loop
 returns-2 c =
     let e = not-in-range _ _ _ _ _ (sym (c .before .before .all .ensures) ∙ not-true _ (c .before .if2 .taken)) in
-    rw (c .so-far2 .ensures) (e .run, e .step)
+    rw (c .so-far2 .ensures) (e .run, (e .step, e .cost))
 
 regs-of-requires : tie.Need-regs-of-requires Inv-loop μ-loop
 regs-of-requires c κs = search needs
@@ -94,7 +94,7 @@ returns-3 c =
     let stand : (isMarked (s .machine .control .standby) && eqb (s .input .release) 0) ≡ true
     = ap (λ (k : Control). isMarked (k .standby) && eqb (s .input .release) 0) (sym (c .before .before .before .regs-of .ensures)) ∙ sym (c .before .before .stays-standing .ensures) ∙ c .before .if3 .taken in
     let e = stays-so upd17132 (s .rom .now) (s .input) (s .budget) (s .machine) (omega arith) (sym (c .before .before .before .before .before .before .before .before .before .all .ensures) ∙ not-false _ (c .before .before .before .before .before .before .before .before .if2 .left)) stand in
-    rw (c .so-far3 .ensures) (e .run, e .step)
+    rw (c .so-far3 .ensures) (e .run, (e .step, e .cost))
 
 loop-holds : tie.Need-loop-holds Inv-loop μ-loop
 loop-holds c = λ release fine awake. begun _ _ _ _ _ (omega arith) fine awake
@@ -118,7 +118,7 @@ returns-4 : tie.Need-returns-4 Inv-loop μ-loop
 returns-4 c =
     let h = c .before .before .before .before .before .before .before .before .before .before .before .before .before in
     let e = ends h _ _ _ (stood _ _ _ _ _ _ _ (head h) (c .before .before .before .before .before .before .before .before .before .before .before .before .loop-test .taken) _ (rw (c .before .before .before .before .before .next .given .1) at (c .before .before .before .before .before .before .before .advance .ensures (input h .release) (head h .awake))) (is-marked _ (c .before .before .if4 .taken))) in
-    rw (c .so-far4 .ensures, c .before .join .ensures) (e .run, e .step)
+    rw (c .so-far4 .ensures, c .before .join .ensures) (e .run, (e .step, e .cost))
 
 loop-less : tie.Need-loop-less Inv-loop μ-loop
 loop-less c = omega arith
@@ -141,7 +141,7 @@ returns-5 : tie.Need-returns-5 Inv-loop μ-loop
 returns-5 c =
     let h = c .before .before .before .before .before .before .before .before .before .before .before in
     let e = ends h _ _ _ (refuses _ _ _ _ _ _ _ (head h) (c .before .before .before .before .before .before .before .before .before .before .loop-test .taken) _ _ (rw (c .before .before .before .refusal .given .1) at (c .before .before .before .before .before .advance .ensures (input h .release) (head h .awake)))) in
-    rw (c .so-far5 .ensures, c .before .join2 .ensures) (e .run, e .step)
+    rw (c .so-far5 .ensures, c .before .join2 .ensures) (e .run, (e .step, e .cost))
 
 join-requires-3 : tie.Need-join-requires-3 Inv-loop μ-loop
 join-requires-3 c κs = search needs
@@ -153,7 +153,7 @@ returns-6 : tie.Need-returns-6 Inv-loop μ-loop
 returns-6 c =
     let h = c .before .before .before in
     let e = ends h _ _ _ (used _ _ _ _ _ _ _ (head h) (c .before .before .loop-test .left)) in
-    rw (c .so-far6 .ensures, c .before .join3 .ensures) (e .run, e .step)
+    rw (c .so-far6 .ensures, c .before .join3 .ensures) (e .run, (e .step, e .cost))
 
 pub go-spec : {M : Type 1} → statement M
 go-spec =

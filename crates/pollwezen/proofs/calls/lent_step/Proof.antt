@@ -11,7 +11,7 @@ number-requires : tie.Need-number-requires
 number-requires c κs = search needs
 
 returns : tie.Need-returns
-returns c = rw (c .number .ensures) (ap lentStepOf (c .before .before .step .ensures))
+returns c = rw (c .number .ensures) (ap lentStepOf (c .before .before .step .ensures .0))
 
 pub lent-step-spec : {M : Type 1} → statement M
 lent-step-spec = tie.close (tie.spec step-requires number-requires returns)
