@@ -7,8 +7,30 @@ ghost use Rattle.pollwezen.specs.Lent.{lentRunOf, lentStepOf};
 use crate::LentRun;
 use crate::LentStep;
 use crate::RunReply;
+use machine::Control;
 use machine::Input;
 use machine::Machine;
+use memory::Memory;
+
+// The same machine. A record that is copied as a whole, as bytes, waits for the stores of its single fields.
+fn by_fields(machine: Machine) -> Machine
+    ensures { λ r. ⌜ r ≡ machine ⌝ }
+{
+    let memory = machine.memory;
+    let control = machine.control;
+    let cells = memory.cells;
+    let stack = control.stack;
+    Machine {
+        memory: Memory { cells: cells },
+        control: Control {
+            pc: control.pc,
+            stack: stack,
+            levels: control.levels,
+            skip: control.skip,
+            standby: control.standby,
+        },
+    }
+}
 
 pub fn lent_step(rom: &[u16], machine: Machine, input: Input) -> LentStep
     ensures { λ r. ⌜ r ≡ lentStepOf (stepOf upd17132 (now (rom .entry)) input machine) ⌝ }
@@ -17,7 +39,7 @@ pub fn lent_step(rom: &[u16], machine: Machine, input: Input) -> LentStep
     let after = s.machine;
     let answer = s.answer;
     LentStep {
-        machine: after,
+        machine: by_fields(after),
         number: answer.number(),
     }
 }

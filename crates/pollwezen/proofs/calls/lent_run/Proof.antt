@@ -1,4 +1,4 @@
-use mathlib.Core.Path.{_∙_, ap}
+use mathlib.Core.Path.{ap}
 use borrow.Author.Needs.{needs}
 use Rattle.pollwezen.specs.Lent.{lentRunOf}
 use Rattle.pollwezen.proofs.calls.lent_run.Statement.{statement}
