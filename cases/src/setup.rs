@@ -12,10 +12,14 @@
 //!     directions F F F F F
 //!     release 1
 
-use reference::machine::LAST_ADDRESS;
 use reference::{Input, Machine};
 
 use crate::scan::{byte, hex, word};
+
+/// PSW, and two of its flags.
+const PSW: usize = 0x7F;
+const CY: u8 = 0b0100;
+const Z: u8 = 0b0010;
 
 #[derive(Clone, PartialEq, Eq)]
 pub struct Setup {
@@ -46,10 +50,10 @@ impl Setup {
             ["standing", mark] => machine.standby = byte(mark)?,
             ["HALT", address] => {
                 machine.standby = 1;
-                machine.pc = (word(address)? + 1) & LAST_ADDRESS;
+                machine.pc = (word(address)? + 1) % 1024;
             }
-            ["CY", bit] => self.set_flag(Machine::CY, bit)?,
-            ["Z", bit] => self.set_flag(Machine::Z, bit)?,
+            ["CY", bit] => self.set_flag(CY, bit)?,
+            ["Z", bit] => self.set_flag(Z, bit)?,
             ["pins", ref pins @ ..] => input.pins = nibbles(pins)?,
             ["directions", ref directions @ ..] => input.directions = nibbles(directions)?,
             ["release", bit] => input.release = byte(bit)?,
@@ -69,7 +73,7 @@ impl Setup {
     }
 
     fn set_flag(&mut self, flag: u8, bit: &str) -> Result<(), String> {
-        let psw = self.cell(Machine::PSW.into())?;
+        let psw = self.cell(PSW)?;
         match bit {
             "0" => *psw &= !flag,
             "1" => *psw |= flag,
