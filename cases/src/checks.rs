@@ -36,22 +36,22 @@ impl Checks {
     }
 
     /// With each entry from one to another at a place.
-    fn entries(&mut self, at: usize, values: [u8; 2], emulator: &dyn Emulator) -> String {
-        let old = self.sheet[at];
+    fn entries(&mut self, at: usize, values: [u8; 2], emulator: &dyn Emulator) -> Option<String> {
+        let old = *self.sheet.get(at)?;
         let told = sweep((values[0]..=values[1]).map(|entry| {
             self.sheet[at] = entry;
-            (format!("{entry:02X}"), self.check(emulator))
+            Some((format!("{entry:02X}"), self.check(emulator)))
         }));
         self.sheet[at] = old;
         told
     }
 
     /// With each word from one to another at a place.
-    fn words(&mut self, at: usize, values: [u16; 2], emulator: &dyn Emulator) -> String {
-        let old = self.rom[at];
+    fn words(&mut self, at: usize, values: [u16; 2], emulator: &dyn Emulator) -> Option<String> {
+        let old = *self.rom.get(at)?;
         let told = sweep((values[0]..=values[1]).map(|word| {
             self.rom[at] = word;
-            (format!("{word:04X}"), self.check(emulator))
+            Some((format!("{word:04X}"), self.check(emulator)))
         }));
         self.rom[at] = old;
         told
@@ -80,11 +80,12 @@ impl Bench for Checks {
     }
 
     fn got(&mut self, line: &str, _: &str, emulator: &dyn Emulator) -> Result<String, String> {
-        match line.split(' ').collect::<Vec<_>>()[..] {
-            ["check"] => Ok(self.check(emulator)),
-            ["entries", at, a, b] => Ok(self.entries(hex(at)?, [byte(a)?, byte(b)?], emulator)),
-            ["words", at, a, b] => Ok(self.words(hex(at)?, [word(a)?, word(b)?], emulator)),
-            _ => Err(format!("{line} is no check")),
-        }
+        let told = match line.split(' ').collect::<Vec<_>>()[..] {
+            ["check"] => Some(self.check(emulator)),
+            ["entries", at, a, b] => self.entries(hex(at)?, [byte(a)?, byte(b)?], emulator),
+            ["words", at, a, b] => self.words(hex(at)?, [word(a)?, word(b)?], emulator),
+            _ => return Err("no check".to_string()),
+        };
+        told.ok_or("no such place".to_string())
     }
 }

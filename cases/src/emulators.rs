@@ -38,14 +38,14 @@ pub trait Emulator {
     fn write(&self, station: &Station, out: &mut [u8]) -> Result<usize, u8>;
 }
 
-/// The proved emulator: the shipped library.
+/// The proved emulator: the shipped library. A refusal comes with zeros; where
+/// it does not, its number here is 0, which no case has.
 pub struct Library;
 
 /// A word by the library: the number, and the row or zeros.
 fn listed(word: u16) -> (u8, Row) {
-    let listed = library::decode(word);
-    let library::Listed { number, row, first, second, addr } = listed;
-    (number, Row { row, first, second, addr })
+    let l = library::decode(word);
+    (l.number, Row { row: l.row, first: l.first, second: l.second, addr: l.addr })
 }
 
 impl Emulator for Library {
@@ -71,7 +71,8 @@ impl Emulator for Library {
         match (checked.number, checked.word, checked.rule) {
             (0, 0, 0) => Verdict::Pass,
             (254, word, rule) => Verdict::Fail { word, rule },
-            (number, ..) => Verdict::Refused(number),
+            (number, 0, 0) => Verdict::Refused(number),
+            _ => Verdict::Refused(0),
         }
     }
 
@@ -93,17 +94,19 @@ impl Emulator for Library {
     fn read(&self, file: &[u8], held: &mut Station, lent: [usize; 3]) -> Result<[usize; 3], u8> {
         let (rom, sheet) = (&mut held.rom[..lent[0]], &mut held.sheet[..lent[1]]);
         let counts = library::read(file, rom, sheet, &mut held.inputs[..lent[2]]);
-        match counts.number {
-            0 => Ok([counts.words, counts.entries, counts.records]),
-            number => Err(number),
+        match (counts.number, [counts.words, counts.entries, counts.records]) {
+            (0, counts) => Ok(counts),
+            (number, [0, 0, 0]) => Err(number),
+            _ => Err(0),
         }
     }
 
     fn write(&self, station: &Station, out: &mut [u8]) -> Result<usize, u8> {
         let output = library::write(&station.rom, &station.sheet, &station.inputs, out);
-        match output.number {
-            0 => Ok(output.length),
-            number => Err(number),
+        match (output.number, output.length) {
+            (0, length) => Ok(length),
+            (number, 0) => Err(number),
+            _ => Err(0),
         }
     }
 }

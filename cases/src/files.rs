@@ -78,31 +78,36 @@ fn read(file: &[u8], room: [usize; 3], emulator: &dyn Emulator) -> String {
 }
 
 impl Files {
-    /// What comes of the first bytes.
-    fn outcome(&self, size: usize, emulator: &dyn Emulator) -> String {
-        let bytes = &self.bytes[..size];
-        let Some([words, entries, inputs]) = self.parts else {
-            return read(bytes, self.room.unwrap_or([size; 3]), emulator);
-        };
-        let (raw, rest) = bytes.split_at(2 * words);
-        let (sheet, rest) = rest.split_at(entries);
+    /// The station whose parts the bytes are; none where they are too few.
+    fn station(&self, [words, entries, inputs]: [usize; 3]) -> Option<Station> {
+        let (raw, rest) = self.bytes.split_at_checked(2 * words)?;
+        let (sheet, rest) = rest.split_at_checked(entries)?;
         let rom = raw.chunks_exact(2).map(|pair| u16::from_be_bytes([pair[0], pair[1]])).collect();
-        let station = Station { rom, sheet: sheet.to_vec(), inputs: rest[..inputs].to_vec() };
-        let outcome = write(&station, self.out.unwrap_or(size + BEHIND), emulator);
-        if outcome.starts_with("REFUSED") {
-            return outcome;
-        }
+        Some(Station { rom, sheet: sheet.to_vec(), inputs: rest.get(..inputs)?.to_vec() })
+    }
+
+    /// What comes of the first bytes, or of the parts; none where there are not
+    /// so many.
+    fn outcome(&self, size: usize, emulator: &dyn Emulator) -> Option<String> {
+        let Some(parts) = self.parts else {
+            return Some(read(self.bytes.get(..size)?, self.room.unwrap_or([size; 3]), emulator));
+        };
+        let station = self.station(parts)?;
         let file = file_of(&station);
-        let again = format!("STATION {words} {entries} {}", inputs / RECORD);
-        told(outcome, read(&file, [file.len(); 3], emulator) == again)
+        let outcome = write(&station, self.out.unwrap_or(file.len() + BEHIND), emulator);
+        if outcome.starts_with("REFUSED") {
+            return Some(outcome);
+        }
+        let again = format!("STATION {} {} {}", parts[0], parts[1], parts[2] / RECORD);
+        Some(told(outcome, read(&file, [file.len(); 3], emulator) == again))
     }
 
     /// With each byte at a place.
-    fn each(&mut self, at: usize, values: [u8; 2], emulator: &dyn Emulator) -> String {
-        let old = self.bytes[at];
+    fn each(&mut self, at: usize, values: [u8; 2], emulator: &dyn Emulator) -> Option<String> {
+        let old = *self.bytes.get(at)?;
         let told = sweep((values[0]..=values[1]).map(|byte| {
             self.bytes[at] = byte;
-            (format!("{byte:02X}"), self.outcome(self.bytes.len(), emulator))
+            Some((format!("{byte:02X}"), self.outcome(self.bytes.len(), emulator)?))
         }));
         self.bytes[at] = old;
         told
@@ -128,7 +133,7 @@ impl Bench for Files {
         match line.split(' ').collect::<Vec<_>>()[..] {
             ["times", n, ref texts @ ..] => self.bytes.extend(bytes(texts)?.repeat(hex(n)?)),
             ["cut", size] => self.bytes.truncate(hex(size)?),
-            ["set", at, value] => self.bytes[hex(at)?] = byte(value)?,
+            ["set", at, value] => *self.bytes.get_mut(hex(at)?).ok_or("past them")? = byte(value)?,
             ["room", w, e, i] => self.room = three(w, e, i)?,
             ["out", room] => self.out = Some(hex(room)?),
             ["parts", w, e, i] => self.parts = three(w, e, i)?,
@@ -138,13 +143,13 @@ impl Bench for Files {
     }
 
     fn got(&mut self, line: &str, _: &str, emulator: &dyn Emulator) -> Result<String, String> {
-        match line.split(' ').collect::<Vec<_>>()[..] {
-            ["try"] => Ok(self.outcome(self.bytes.len(), emulator)),
-            ["each", at, a, b] => Ok(self.each(hex(at)?, [byte(a)?, byte(b)?], emulator)),
-            ["cuts", a, b] => Ok(sweep(
-                (hex(a)?..=hex(b)?).map(|size| (size.to_string(), self.outcome(size, emulator))),
-            )),
-            _ => Err(format!("{line} is no try")),
-        }
+        let cut = |size: usize| Some((size.to_string(), self.outcome(size, emulator)?));
+        let told = match line.split(' ').collect::<Vec<_>>()[..] {
+            ["try"] => self.outcome(self.bytes.len(), emulator),
+            ["cuts", a, b] => sweep((hex(a)?..=hex(b)?).map(cut)),
+            ["each", at, a, b] => self.each(hex(at)?, [byte(a)?, byte(b)?], emulator),
+            _ => return Err("no try".to_string()),
+        };
+        told.ok_or("not so many bytes".to_string())
     }
 }

@@ -3,10 +3,10 @@
 //!
 //!     cases [FOLDER]
 //!
-//! Each file of the folder `data` is of one kind, and a module says how its
-//! lines are read. A case that is answered otherwise is printed with its file,
-//! line and name, and makes the exit status 1; so does a file that has not as
-//! many cases as its last line tells.
+//! Each file of the folder, `data` where none is given, is of one kind and
+//! tells its lines itself. A case that is answered otherwise is printed with its
+//! file, line and name, and makes the exit status 1; so does a file that has
+//! not as many cases as its last line tells.
 //!
 //!     cases --faults
 //!

@@ -117,14 +117,15 @@ pub fn is_word(text: &str) -> bool {
 }
 
 /// The outcomes of a row of values as one answer: the first, and each that
-/// differs from the one before, behind its value.
-pub fn sweep(outcomes: impl Iterator<Item = (String, String)>) -> String {
+/// differs from the one before, behind its value. None where a value has none.
+pub fn sweep(outcomes: impl Iterator<Item = Option<(String, String)>>) -> Option<String> {
     let mut told: Vec<(String, String)> = vec![];
-    for (value, outcome) in outcomes {
+    for outcome in outcomes {
+        let (value, outcome) = outcome?;
         if told.last().is_none_or(|last| last.1 != outcome) {
             told.push((value, outcome));
         }
     }
     let texts: Vec<_> = told.iter().map(|(value, text)| format!("{value} {text}")).collect();
-    texts.join(", ")
+    Some(texts.join(", "))
 }
