@@ -34,7 +34,7 @@ use Rattle.operations.specs.Writes.{flagsAfter, arithmeticWrites, resultWrites,
 use Rattle.operations.specs.declared.Addresses.{Addresses}
 use Rattle.cpu.specs.Execute.{dataOf, pastTable, transferBy, executeOf}
 use Rattle.cpu.specs.Reply.{Reply, done, refused, completedStep, refusedStep}
-use Rattle.step_laws.specs.ReadLaw.{readBy, AgreeAt, ReadLaw}
+use Rattle.step_laws.specs.ReadLaw.{addressedBy, ReadsResult, alu-r, alu-m, rorc, AgreeAt, ReadLaw}
 
 module _ (c o : List ℕ) where
   abbrev Agrees : ℕ → Type 0
@@ -100,16 +100,15 @@ module _ (chip : Chip) (pins directions c o : List ℕ) where
   unfolding readOf portOf
   read-same at x = rw x
 
-  -- an operand stands at the same address, and there stands the same
-  operand-same : (w : Operand) → AgreeAt (readBy chip d w) c o
-      → (addressIn chip d w ≡ addressIn chip e w) × (readAt chip d (addressIn chip d w) ≡ readAt chip e (addressIn chip d w))
+  -- an operand stands at the same address
+  operand-same : (w : Operand) → AgreeAt (addressedBy chip d w) c o → addressIn chip d w ≡ addressIn chip e w
   unfolding addressIn
-  operand-same none h = (refl, read-same _ refl)
-  operand-same (direct m) h = (address-same c o m (h .0) (h .1 .0) (h .1 .1 .0), read-same _ (h .1 .1 .1 .0))
-  operand-same (register r) h = (register-same c o r (h .0), read-same _ (h .1 .0))
+  operand-same none h = refl
+  operand-same (direct m) h = address-same c o m (h .0) (h .1 .0) (h .1 .1 .0)
+  operand-same (register r) h = register-same c o r (h .0)
   operand-same (indirect m r) h =
       let column = read-same (registerOf c r) (h .1 .1 .1 .1 .1 .0) ∙ ap (readAt chip e) (register-same c o r (h .1 .1 .1 .1 .0)) in
-      (indirect-same c o m _ _ (h .1 .0) (h .1 .1 .0) (address-same c o m (h .0) (h .1 .1 .0) (h .1 .1 .1 .0)) column, read-same _ (h .1 .1 .1 .1 .1 .1 .0))
+      indirect-same c o m _ _ (h .1 .0) (h .1 .1 .0) (address-same c o m (h .0) (h .1 .1 .0) (h .1 .1 .1 .0)) column
 
   -- an operation on what stands at an address
   operated : (op : AluOp) (at b b' : ℕ) → readAt chip d at ≡ readAt chip e at → b ≡ b' → Agrees c o PSW → Agrees c o RPL
@@ -129,8 +128,7 @@ module _ (chip : Chip) (pins directions c o : List ℕ) where
   alu-same Xor at b b' x y h = rw (x, y)
 
   -- by addresses at which both hold the same
-  module _ (rom : List ℕ) (control : Control) (a : Addresses) (top : ℕ)
-      (to : readAt chip d (a .to) ≡ readAt chip e (a .to)) (from : readAt chip d (a .from) ≡ readAt chip e (a .from)) where
+  module _ (rom : List ℕ) (control : Control) (a : Addresses) (top : ℕ) (from : readAt chip d (a .from) ≡ readAt chip e (a .from)) where
     -- the writes, the condition, where control goes, and refusal 8
     abbrev Alike : Instruction → Type 0
     Alike i =
@@ -143,43 +141,43 @@ module _ (chip : Chip) (pins directions c o : List ℕ) where
     plain : {A B C : Type 0} {w x : A} {p : B} {q : Bool → C} {r : Bool} → w ≡ x → (w ≡ x) × ((p ≡ p) × (((b : Bool) → q b ≡ q b) × (r ≡ r)))
     plain w = (w, (refl, (λ b. refl, refl)))
 
-    alike : (i : Instruction) → AgreeAt (operandsOf i .implied) c o → Alike i
+    alike : (i : Instruction) → (ReadsResult i → readAt chip d (a .to) ≡ readAt chip e (a .to)) → AgreeAt (operandsOf i .implied) c o → Alike i
     unfolding writesAt holdsAt controlOf pastTable transferWrites
-    alike (AluRegister op r m) h = plain (alu-same op (a .to) _ _ to from h)
-    alike (AluImmediate op m n4) h = plain (alu-same op (a .to) n4 n4 to refl h)
-    alike (Skip op m n4) h = (skip-same c o op h, (ap (λ (x : ℕ). conditionOf op x n4) from, (λ b. refl, refl)))
-    alike (Rorc r) h = plain (rw (set-same c o PSW CY (h .0), to) (rotate-same c o (a .to) _ (h .0)))
-    alike (Ld r m) h = plain (rw from)
-    alike (St m r) h = plain (rw from)
-    alike (MovToIndirect r m) h = plain (rw from)
-    alike (MovFromIndirect m r) h = plain (rw from)
-    alike (MovImmediate m n4) h = plain refl
-    alike (Peek rf) h = plain refl
-    alike (Poke rf) h = plain refl
-    alike (Get p) h = plain refl
-    alike (Put p) h = plain refl
-    alike (Br addr) h = plain refl
-    alike (Call addr) h = plain refl
-    alike (Stop s) h = plain refl
-    alike (Halt s) h = plain refl
-    alike (Fixed IncAr) h = plain (rw (ar-same c o h))
-    alike (Fixed IncIx) h = plain (rw (ix-same c o (h .1 .0) (h .1 .1 .0), h .0))
-    alike (Fixed Movt) h = rw (ar-same c o h) (plain refl)
-    alike (Fixed PushAr) h = rw (ar-same c o h) (plain refl)
-    alike (Fixed PopAr) h = plain refl
-    alike (Fixed BrAr) h = rw (ar-same c o h) (plain refl)
-    alike (Fixed CallAr) h = rw (ar-same c o h) (plain refl)
-    alike (Fixed Ret) h = plain refl
-    alike (Fixed Retsk) h = plain refl
-    alike (Fixed Reti) h = plain refl
-    alike (Fixed Ei) h = plain refl
-    alike (Fixed Di) h = plain refl
-    alike (Fixed Nop) h = plain refl
+    alike (AluRegister op r m) to h = plain (alu-same op (a .to) _ _ (to (alu-r op r m)) from h)
+    alike (AluImmediate op m n4) to h = plain (alu-same op (a .to) n4 n4 (to (alu-m op m n4)) refl h)
+    alike (Skip op m n4) to h = (skip-same c o op h, (ap (λ (x : ℕ). conditionOf op x n4) from, (λ b. refl, refl)))
+    alike (Rorc r) to h = plain (rw (set-same c o PSW CY (h .0), to (rorc r)) (rotate-same c o (a .to) _ (h .0)))
+    alike (Ld r m) to h = plain (rw from)
+    alike (St m r) to h = plain (rw from)
+    alike (MovToIndirect r m) to h = plain (rw from)
+    alike (MovFromIndirect m r) to h = plain (rw from)
+    alike (MovImmediate m n4) to h = plain refl
+    alike (Peek rf) to h = plain refl
+    alike (Poke rf) to h = plain refl
+    alike (Get p) to h = plain refl
+    alike (Put p) to h = plain refl
+    alike (Br addr) to h = plain refl
+    alike (Call addr) to h = plain refl
+    alike (Stop s) to h = plain refl
+    alike (Halt s) to h = plain refl
+    alike (Fixed IncAr) to h = plain (rw (ar-same c o h))
+    alike (Fixed IncIx) to h = plain (rw (ix-same c o (h .1 .0) (h .1 .1 .0), h .0))
+    alike (Fixed Movt) to h = rw (ar-same c o h) (plain refl)
+    alike (Fixed PushAr) to h = rw (ar-same c o h) (plain refl)
+    alike (Fixed PopAr) to h = plain refl
+    alike (Fixed BrAr) to h = rw (ar-same c o h) (plain refl)
+    alike (Fixed CallAr) to h = rw (ar-same c o h) (plain refl)
+    alike (Fixed Ret) to h = plain refl
+    alike (Fixed Retsk) to h = plain refl
+    alike (Fixed Reti) to h = plain refl
+    alike (Fixed Ei) to h = plain refl
+    alike (Fixed Di) to h = plain refl
+    alike (Fixed Nop) to h = plain refl
 
-  addresses-same : (i : Instruction) → AgreeAt (readBy chip d (operandsOf i .to)) c o → AgreeAt (readBy chip d (operandsOf i .from)) c o
+  addresses-same : (i : Instruction) → AgreeAt (addressedBy chip d (operandsOf i .to)) c o → AgreeAt (addressedBy chip d (operandsOf i .from)) c o
       → addressesOf chip d i ≡ addressesOf chip e i
   unfolding addressesOf
-  addresses-same i t f = rw (operand-same (operandsOf i .to) t .0, operand-same (operandsOf i .from) f .0)
+  addresses-same i t f = rw (operand-same (operandsOf i .to) t, operand-same (operandsOf i .from) f)
 
 -- what an instruction answers, by its refusal and by refusal 8
 abbrev answerBy : ℕ → Bool → Reply
@@ -204,9 +202,9 @@ module _ (chip : Chip) (rom : List ℕ) (input : Input) where
       let f = dataOf (withCells others m) input in
       let x = addressesOf chip d i in
       let a = addresses-same chip (input .pins) (input .directions) (cellsOf m) others i (h .to) (h .from) in
-      let reads = operand-same chip (input .pins) (input .directions) (cellsOf m) others in
+      let reads = read-same chip (input .pins) (input .directions) (cellsOf m) others in
       let g = alike chip (input .pins) (input .directions) (cellsOf m) others rom (m .control) x (topOf (m .control))
-      (reads (operandsOf i .to) (h .to) .1) (reads (operandsOf i .from) (h .from) .1) i (h .implied) in
+      (reads (x .from) (h .source .0)) i (λ y. reads (x .to) (h .result y .0)) (h .implied) in
       let holds : holdsOf chip d i ≡ holdsOf chip f i = g .1 .0 ∙ ap (λ (y : Addresses). holdsAt chip f y i) a in
       let transfer : transferBy chip rom input i m ≡ transferBy chip rom input i (withCells others m)
       = g .1 .1 .0 (holdsOf chip d i) ∙ ap (λ (b : Bool). controlOf chip (flowOf i) b (arOf others) (m .control)) holds in

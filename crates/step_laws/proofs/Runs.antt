@@ -22,7 +22,7 @@ use Rattle.cpu.proofs.Turns.{all-of, begins, budget-refused, range-refused, ste
 use Rattle.step_laws.specs.RangeLaws.{RangeLaws}
 use Rattle.step_laws.specs.RunLaws.{asRun, after, RunLaws}
 use Rattle.step_laws.proofs.Ranges.{range-laws}
-use Rattle.step_laws.proofs.Splits.{Split, Idle, split, begun-at, bounded, reached, passed, awake, ends}
+use Rattle.step_laws.proofs.Splits.{counts, Split, Idle, split, begun-at, bounded, reached, passed, awake, ends}
 
 -- a run of one step that has been taken
 one : (m : Machine) (r : Reply) → afterStep (0 + costOf r .steps) m r (ended (0 + costOf r .steps) 0 m) ≡ asRun (record { reply = r; machine = m })
@@ -78,34 +78,32 @@ module _ (chip : Chip) (laws : RangeLaws chip) (rom : List ℕ) (input : Input) 
         ∙ ap (after k) (begins chip rom input j next b (all-of chip rom input next (laws .run rom input k m (p .0)) (p .1 .0) (p .1 .1)))
 
   at-most : (n : ℕ) → Start n → ran n .steps ≤ n
-  at-most n (inl e) = omega (arith, ap (λ (r : Run). r .steps) e)
-  at-most n (inr p) = bounded chip rom input _ n (ran n) (ran n) (split-at (p .0) n n (p .1) (omega arith))
+  at-most n (inl e) = omega (arith, counts e)
+  at-most n (inr p) = bounded chip rom input (split-at (p .0) n n (p .1) (omega arith))
 
   -- a run that begins, split within its count
   split-in : (n k : ℕ) → Start n → (ran n .refusal ≡ 1 → ⊥) → k ≤ ran n .steps → Split chip rom input (n - k) k (ran k) (ran n)
   split-in n k (inl e) f h = absurd (f (ap (λ (r : Run). r .refusal) e))
   split-in n k (inr p) f h = split-at (p .0) n k (p .1) (omega (arith, at-most n (inr p)))
 
-  moment : (n k : ℕ) → (ran n .refusal ≡ 1 → ⊥) → k ≤ ran n .steps → ran k ≡ ended k 0 (ran k .machine)
-  moment n k f h = reached chip rom input (n - k) k (ran k) (ran n) (split-in n k (start n) f h) h
+  prefix : (n k : ℕ) → (ran n .refusal ≡ 1 → ⊥) → k ≤ ran n .steps → ran k ≡ ended k 0 (ran k .machine)
+  prefix n k f h = reached chip rom input (split-in n k (start n) f h) h
 
   -- the end of a run, seen from the run of its count
   end-of : (n : ℕ) → (ran n .refusal ≡ 1 → ⊥) → Idle chip rom input (ran (ran n .steps) .machine) (ran n)
-  end-of n f =
-      let k = ran n .steps in
-      ends chip rom input (n - k) k (ran k) (ran n) (split-in n k (start n) f (omega arith)) refl
+  end-of n f = ends chip rom input (split-in n (ran n .steps) (start n) f (omega arith)) refl
 
   whole : (n : ℕ) → (ran n .refusal ≡ 1 → ⊥) → ran (ran n .steps) ≡ ended (ran n .steps) 0 (ran n .machine)
-  whole n f = moment n (ran n .steps) f (omega arith) ∙ ap (ended (ran n .steps) 0) (sym (end-of n f .same))
+  whole n f = prefix n (ran n .steps) f (omega arith) ∙ ap (ended (ran n .steps) 0) (sym (end-of n f .same))
 
   next : (n : ℕ) → (ran n .refusal ≡ 1 → ⊥) → (ran n .refusal ≡ 0 → ⊥)
       → stepOf chip rom input (ran n .machine) ≡ refusedStep (ran n .refusal) (ran n .machine)
   next n f g = rw (end-of n f .same) (end-of n f .meets g)
 
   rest : (n k : ℕ) → Start n → k < ran n .steps → ran n ≡ after k (runOf chip rom input (n - k) (ran k .machine))
-  rest n k (inl e) h = absurd (omega (arith, ap (λ (r : Run). r .steps) e))
+  rest n k (inl e) h = absurd (omega (arith, counts e))
   rest n k (inr p) h =
-      passed chip rom input (n - k) k (ran k) (ran n) (split-at (p .0) n k (p .1) (omega (arith, at-most n (inr p)))) h
+      passed chip rom input (split-at (p .0) n k (p .1) (omega (arith, at-most n (inr p)))) h
       ∙ followed (p .0) k (n - k) (omega arith)
 
   -- nothing first
@@ -118,10 +116,10 @@ module _ (chip : Chip) (laws : RangeLaws chip) (rom : List ℕ) (input : Input) 
 
   joined-on : (n k : ℕ) → Start n → n + k ≤ 65535 → ran n .steps ≡ n → isStanding (ran n .machine) ≡ false
       → ran (n + k) ≡ after n (runOf chip rom input k (ran n .machine))
-  joined-on n k (inl e) b c w = joined-none n k (sym c ∙ ap (λ (r : Run). r .steps) e)
+  joined-on n k (inl e) b c w = joined-none n k (sym c ∙ counts e)
   joined-on n k (inr p) b c w =
       let l : n + k - n ≡ k = omega arith in
-      awake chip rom input k n (ran n) (ran (n + k)) (rw l at (split-at (p .0) (n + k) n b (omega arith))) c w
+      awake chip rom input (rw l at (split-at (p .0) (n + k) n b (omega arith))) c w
       ∙ followed (p .0) n k (omega arith)
 
   pub run-laws : RunLaws chip rom input m
@@ -129,7 +127,7 @@ module _ (chip : Chip) (laws : RangeLaws chip) (rom : List ℕ) (input : Input) 
     cycles = cycles;
     single = single (allInRange chip rom m input) refl;
     bounded = λ n. at-most n (start n);
-    moment = moment;
+    prefix = prefix;
     rest = λ n k. rest n k (start n);
     whole = whole;
     next = next;

@@ -15,6 +15,9 @@ use Rattle.cpu.specs.Step.{isStanding, stepOf}
 use Rattle.step_laws.specs.RunLaws.{after}
 use Rattle.step_laws.proofs.Steps.{unchanged}
 
+pub counts : {p r : Run} → p ≡ r → p .steps ≡ r .steps
+counts e = ap (λ (x : Run). x .steps) e
+
 module _ (chip : Chip) (rom : List ℕ) (input : Input) where
   abbrev from : ℕ → ℕ → Machine → Run
   from n s m = runFrom chip rom input n s m
@@ -97,7 +100,7 @@ module _ (chip : Chip) (rom : List ℕ) (input : Input) where
   stopped m (refused q) e n = e
 
   idle-turn : (n s : ℕ) (m : Machine) → Turn m → from (suc n) s m .steps ≡ s → Idle m (from (suc n) s m)
-  idle-turn n s m (goes next h law) = rw (law n s) (λ e. absurd (omega (arith, ap (λ (x : Run). x .steps) (begun-at n (s + 1) next))))
+  idle-turn n s m (goes next h law) = rw (law n s) (λ e. absurd (omega (arith, counts (begun-at n (s + 1) next))))
   idle-turn n s m (stands next h law) = rw (law n s) (λ e. absurd (omega arith))
   idle-turn n s m (stops r e law) = rw (law n s) (λ z. record { same = refl; meets = stopped m r e })
 
@@ -106,20 +109,20 @@ module _ (chip : Chip) (rom : List ℕ) (input : Input) where
   idle zero s m e = record { same = refl; meets = λ n. absurd (n refl) }
   idle (suc n) s m e = idle-turn n s m (turn-of m) e
 
-  module _ (j t : ℕ) (p r : Run) where
+  module _ {j t : ℕ} {p r : Run} where
     pub bounded : Split j t p r → p .steps ≤ t
     bounded (early e l) = omega arith
-    bounded (stood e f h) = omega (arith, ap (λ (x : Run). x .steps) f)
-    bounded (on f e) = omega (arith, ap (λ (x : Run). x .steps) f)
+    bounded (stood e f h) = omega (arith, counts f)
+    bounded (on f e) = omega (arith, counts f)
 
     pub reached : Split j t p r → t ≤ r .steps → p ≡ ended t 0 (p .machine)
-    reached (early e l) h = absurd (omega (arith, ap (λ (x : Run). x .steps) e))
+    reached (early e l) h = absurd (omega (arith, counts e))
     reached (stood e f w) h = f
     reached (on f e) h = f
 
     pub passed : Split j t p r → t < r .steps → r ≡ from j t (p .machine)
-    passed (early e l) h = absurd (omega (arith, ap (λ (x : Run). x .steps) e))
-    passed (stood e f w) h = absurd (omega (arith, ap (λ (x : Run). x .steps) (e ∙ f)))
+    passed (early e l) h = absurd (omega (arith, counts e))
+    passed (stood e f w) h = absurd (omega (arith, counts (e ∙ f)))
     passed (on f e) h = e
 
     pub awake : Split j t p r → p .steps ≡ t → isStanding (p .machine) ≡ false → r ≡ from j t (p .machine)
@@ -128,6 +131,6 @@ module _ (chip : Chip) (rom : List ℕ) (input : Input) where
     awake (on f e) h w = e
 
     pub ends : Split j t p r → r .steps ≡ t → Idle (p .machine) r
-    ends (early e l) h = absurd (omega (arith, ap (λ (x : Run). x .steps) e))
+    ends (early e l) h = absurd (omega (arith, counts e))
     ends (stood e f w) h = record { same = ap (λ (x : Run). x .machine) e; meets = λ n. absurd (n (ap (λ (x : Run). x .refusal) (e ∙ f))) }
     ends (on f e) h = rw e (idle j t (p .machine) (rw (← e) h))

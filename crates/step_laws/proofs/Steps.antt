@@ -46,6 +46,14 @@ module _ (chip : Chip) (rom : List ℕ) (input : Input) where
   fetched P m off over on =
       either P (leb (length rom) (m .control .pc)) (refusedStep 2 m) _ off (either P (isMarked (m .control .skip)) (passOver chip rom input m) _ over on)
 
+  -- the ways that a step ends
+  stepped : (P : Step → Type 0) (m : Machine) → P (refusedStep 1 m) → P (standingStep m)
+      → (let s = fetchOf chip rom input (woken m) in P (unlessRefused m (s .machine) (s .reply))) → P (step m)
+  unfolding stepOf advanceOf
+  stepped P m off stays on =
+      either P (allInRange chip rom m input) (advanceOf chip rom input m) (refusedStep 1 m)
+      (either P (isStanding m && eqb (input .release) 0) (standingStep m) _ stays on) off
+
   -- a fetch does not answer "standing"
   abbrev Awake : Step → Type 0
   Awake s = s .reply ≡ inStandby → ⊥
@@ -67,16 +75,11 @@ module _ (chip : Chip) (rom : List ℕ) (input : Input) where
 
   -- a step that is not completed
   pub unchanged : (m : Machine) → (step m .reply ≡ done → ⊥) → step m .machine ≡ m
-  unfolding stepOf advanceOf
   unchanged m =
-      let P : Step → Type 0 = λ s. (s .reply ≡ done → ⊥) → s .machine ≡ m in
-      let s = fetchOf chip rom input (woken m) in
-      either P (allInRange chip rom m input) (advanceOf chip rom input m) (refusedStep 1 m)
-      (either P (isStanding m && eqb (input .release) 0) (standingStep m) (unlessRefused m (s .machine) (s .reply)) (λ n. refl)
-      (left m (s .machine) (s .reply) (fetched Awake (woken m) (not-refused 2) not-done (decoded (woken m) (decodeOf (getD rom (m .control .pc) 0))))))
-      (λ n. refl)
+      stepped (λ (s : Step). (s .reply ≡ done → ⊥) → s .machine ≡ m) m (λ n. refl) (λ n. refl)
+      (left m _ _ (fetched Awake (woken m) (not-refused 2) not-done (decoded (woken m) (decodeOf (getD rom (m .control .pc) 0)))))
 
-  -- the cells of a step
+  -- the cells after a step are those before it, or those after the fetch
   module _ (P : List ℕ → Type 0) (m : Machine) (same : P (cellsOf m)) where
     abbrev Q : Step → Type 0
     Q s = P (cellsOf (s .machine))
@@ -86,27 +89,22 @@ module _ (chip : Chip) (rom : List ℕ) (input : Input) where
     unless after inStandby p = p
     unless after (refused n) p = same
 
-    stepped : Q (fetchOf chip rom input (woken m)) → Q (step m)
-    unfolding stepOf advanceOf
-    stepped p =
-        let s = fetchOf chip rom input (woken m) in
-        either Q (allInRange chip rom m input) (advanceOf chip rom input m) (refusedStep 1 m)
-        (either Q (isStanding m && eqb (input .release) 0) (standingStep m) (unlessRefused m (s .machine) (s .reply)) same (unless (s .machine) (s .reply) p))
-        same
+    cells-of : Q (fetchOf chip rom input (woken m)) → Q (step m)
+    cells-of p = stepped Q m same same (unless _ (fetchOf chip rom input (woken m) .reply) p)
 
   module _ (m : Machine) where
     skipped : isMarked (m .control .skip) ≡ true → cellsOf (step m .machine) ≡ cellsOf m
     unfolding fetchOf
     skipped e =
         let P : List ℕ → Type 0 = λ cells. cells ≡ cellsOf m in
-        stepped P m refl (rw e (either (Q P m refl) (leb (length rom) (m .control .pc)) (refusedStep 2 (woken m)) (passOver chip rom input (woken m)) refl refl))
+        cells-of P m refl (rw e (either (Q P m refl) (leb (length rom) (m .control .pc)) (refusedStep 2 (woken m)) (passOver chip rom input (woken m)) refl refl))
 
     frame : (i : Instruction) → decodeOf (getD rom (m .control .pc) 0) ≡ is i
         → (k : ℕ) → touches (writesBy chip rom input i m) k ≡ false → getD (cellsOf (step m .machine)) k 0 ≡ getD (cellsOf m) k 0
     unfolding writtenOf
     frame i e k u =
         let P : List ℕ → Type 0 = λ cells. getD cells k 0 ≡ getD (cellsOf m) k 0 in
-        stepped P m refl
+        cells-of P m refl
         (fetched (Q P m refl) (woken m) refl refl
         (rw e (settled (Q P m refl) i (woken m) (λ n. refl) (untouched chip (writesBy chip rom input i m) (cellsOf m) k u))))
 

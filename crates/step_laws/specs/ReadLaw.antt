@@ -1,10 +1,12 @@
 -- An instruction depends on no cell but those that its operands name, those that their addresses go by and those that it
--- implies: document 01, "Addresses". Proved in proofs/Depends.antt.
+-- implies: document 01, "Addresses" and "Results". Proved in proofs/Depends.antt.
 -- Assumes nothing.
 use mathlib.Core.Path.{_≡_}
 use mathlib.Core.List.{List, [], _∷_}
 use Prim.Native.Nat.{ℕ}
+use Rattle.isa.specs.declared.AluOp.{AluOp}
 use Rattle.isa.specs.declared.Instruction.{Instruction}
+use Rattle.isa.specs.declared.Instruction.the-variants.{AluRegister, AluImmediate, Rorc}
 use Rattle.memory.specs.Cells.{cellAt}
 use Rattle.memory.specs.Chip.{Chip}
 use Rattle.memory.specs.Names.{IXH, IXM, IXL, RPL, PSW}
@@ -17,23 +19,31 @@ use Rattle.operations.specs.Writes.{holdsOf}
 use Rattle.cpu.specs.Execute.{dataOf, transferBy, executeOf}
 use Rattle.step_laws.specs.StepLaws.{writesBy}
 
--- m goes by IXE and IX, r by the register pointer, and @r by these, by MPE and by what r holds
-abbrev pub readBy : Chip → Data → Operand → List ℕ
-readBy chip d none = []
-readBy chip d (direct m) = PSW ∷ IXM ∷ IXL ∷ addressIn chip d (direct m) ∷ []
-readBy chip d (register r) = RPL ∷ addressIn chip d (register r) ∷ []
-readBy chip d (indirect m r) =
-    PSW ∷ IXH ∷ IXM ∷ IXL ∷ RPL ∷ addressIn chip d (register r) ∷ addressIn chip d (indirect m r) ∷ []
+-- the cells that an operand's address goes by: m's by IXE and IX, r's by the register pointer, and @r's by these, by MPE and by
+-- what r holds
+abbrev pub addressedBy : Chip → Data → Operand → List ℕ
+addressedBy chip d none = []
+addressedBy chip d (direct m) = PSW ∷ IXM ∷ IXL ∷ []
+addressedBy chip d (register r) = RPL ∷ []
+addressedBy chip d (indirect m r) = PSW ∷ IXH ∷ IXM ∷ IXL ∷ RPL ∷ addressIn chip d (register r) ∷ []
+
+-- the instructions that read the cell of their result; LD, ST and MOV only write it
+pub data ReadsResult : Instruction → Type 0 where
+  alu-r : (op : AluOp) (r m : ℕ) → ReadsResult (AluRegister op r m)
+  alu-m : (op : AluOp) (m n4 : ℕ) → ReadsResult (AluImmediate op m n4)
+  rorc : (r : ℕ) → ReadsResult (Rorc r)
 
 -- two memories agree at each of some addresses
 abbrev pub AgreeAt : List ℕ → List ℕ → List ℕ → Type 0
 AgreeAt [] cells others = Unit
 AgreeAt (at ∷ ats) cells others = (cellAt cells at ≡ cellAt others at) × AgreeAt ats cells others
 
--- and at what an instruction goes by
+-- and at what an instruction goes by: what the addresses of its operands go by, what stands there, and what it implies
 pub record Agree (chip : Chip) (d : Data) (i : Instruction) (others : List ℕ) : Type 0 where
-  pub to : AgreeAt (readBy chip d (operandsOf i .to)) (d .cells) others
-  pub from : AgreeAt (readBy chip d (operandsOf i .from)) (d .cells) others
+  pub to : AgreeAt (addressedBy chip d (operandsOf i .to)) (d .cells) others
+  pub from : AgreeAt (addressedBy chip d (operandsOf i .from)) (d .cells) others
+  pub source : AgreeAt (addressIn chip d (operandsOf i .from) ∷ []) (d .cells) others
+  pub result : ReadsResult i → AgreeAt (addressIn chip d (operandsOf i .to) ∷ []) (d .cells) others
   pub implied : AgreeAt (operandsOf i .implied) (d .cells) others
 
 module _ (chip : Chip) (rom : List ℕ) (input : Input) where

@@ -34,8 +34,9 @@ module _ (chip : Chip) (rom : List ℕ) (input : Input) where
     pub bounded : (n : ℕ) → run n m .steps ≤ n
     -- "It reports the number of steps completed": for k up to that number the run of k steps completes them all, refused by
     -- nothing
-    pub moment : (n k : ℕ) → (run n m .refusal ≡ 1 → ⊥) → k ≤ run n m .steps → run k m ≡ ended k 0 (run k m .machine)
-    -- the whole run is this one and what is left of it
+    pub prefix : (n k : ℕ) → (run n m .refusal ≡ 1 → ⊥) → k ≤ run n m .steps → run k m ≡ ended k 0 (run k m .machine)
+    -- short of that number the whole run is this one and a run of the steps that are left; a run that ends standing would at
+    -- release 1 go on
     pub rest : (n k : ℕ) → k < run n m .steps → run n m ≡ after k (run (n - k) (run k m .machine))
     -- "a refused run keeps the state of its completed steps": it is the run of its count, where the number is not 1
     pub whole : (n : ℕ) → (run n m .refusal ≡ 1 → ⊥) → run (run n m .steps) m ≡ ended (run n m .steps) 0 (run n m .machine)
@@ -43,6 +44,6 @@ module _ (chip : Chip) (rom : List ℕ) (input : Input) where
     pub next : (n : ℕ) → (run n m .refusal ≡ 1 → ⊥) → (run n m .refusal ≡ 0 → ⊥)
         → stepOf chip rom input (run n m .machine) ≡ refusedStep (run n m .refusal) (run n m .machine)
     -- a run of n + k is a run of n followed by a run of k, where the first completes n steps, and n is 0 or the machine does
-    -- not stand after it
+    -- not stand after it, so that it ended at its budget
     pub joined : (n k : ℕ) → n + k ≤ 65535 → run n m .steps ≡ n → (n ≡ 0) ⊎ (isStanding (run n m .machine) ≡ false)
         → run (n + k) m ≡ after n (run k (run n m .machine))
