@@ -1,15 +1,32 @@
 // The C interface, include/pollwezen.h: all its entries. Records and inputs are plain structs of unsigned integers, and answers
 // are numbers. The entries on a lent record are the forms in place of the step and the run.
 mod calls;
+mod replies;
 
 ghost use mathlib.Core.Path.{_≡_};
+ghost use mathlib.Core.Logic.{_↔_};
+ghost use Prim.Native.Nat.{_≤_};
+ghost use lib.ListN.{length};
 ghost use Rattle.memory.specs.Chip.{upd17132};
 ghost use Rattle.machine.specs.Parts.{resetMachine};
 ghost use Rattle.cpu.specs.Run.{runOf};
 ghost use Rattle.cpu.specs.Step.{stepOf};
+ghost use Rattle.clearance.specs.Safe.{Safe};
+ghost use Rattle.verifier.specs.Verdict.{Clear, verifyOf};
+ghost use Rattle.listing.specs.Rows.{decodedRowOf, encodedRowOf};
+ghost use Rattle.listing.specs.Table.{fields};
+ghost use Rattle.station_file.specs.Answers.{buffersOf, stationOf};
+ghost use Rattle.station_file.specs.Read.{readOf};
+ghost use Rattle.station_file.specs.Station.{form1};
+ghost use Rattle.station_file.specs.Write.{writeOf};
+ghost use Rattle.transcript.specs.Print.{printOf};
+ghost use Rattle.transcript.specs.Transcript.{transcriptOf};
 ghost use Rattle.pollwezen.specs.Lent.{lentRun, lentRunOf, lentStep, lentStepOf};
+ghost use Rattle.pollwezen.specs.Replies.{printReplyOf, readReplyOf, verdictReplyOf, writeReplyOf};
 use calls::lent_run;
 use calls::lent_step;
+use listing::DecodedRow;
+use listing::EncodedRow;
 use machine::Input;
 use machine::Machine;
 
@@ -18,6 +35,31 @@ use machine::Machine;
 pub struct RunReply {
     pub steps: u32,
     pub number: u8,
+}
+
+// What the check answers: 0 for a sheet that passes, else the refusal, or 254 with the lowest word that breaks a rule and
+// its lowest rule.
+#[repr(C)]
+pub struct VerdictReply {
+    pub number: u8,
+    pub word: u16,
+    pub rule: u8,
+}
+
+// What the reader answers: 0 and how much it wrote to each lent buffer, or the refusal.
+#[repr(C)]
+pub struct ReadReply {
+    pub number: u8,
+    pub words: usize,
+    pub entries: usize,
+    pub records: usize,
+}
+
+// What the writer and the transcript answer: 0 and how many bytes they wrote, or the refusal.
+#[repr(C)]
+pub struct OutputReply {
+    pub number: u8,
+    pub length: usize,
 }
 
 // What a step leaves in the lent record, and its number.
@@ -64,4 +106,70 @@ pub extern "C" fn pollwezen_run(
     let r = lent_run(rom, *machine, input, budget);
     *machine = r.machine;
     r.reply
+}
+
+// The check of a ROM and its sheet, one level a word. The last promise is demand 3, of these entries too.
+#[no_mangle]
+pub extern "C" fn pollwezen_verify(rom: &[u16], sheet: &[u8]) -> VerdictReply
+    ensures { λ r. ⌜ r ≡ verdictReplyOf (verifyOf upd17132 (now (rom .entry)) (now (sheet .entry))) ⌝ }
+    ensures { λ r. ⌜ (r .number ≡ 0) ↔ Clear upd17132 (now (rom .entry)) (now (sheet .entry)) ⌝ }
+    ensures { λ r. ⌜ (r .number ≡ 0 → Safe upd17132 (now (rom .entry)) (now (sheet .entry))) ⌝ }
+{
+    replies::of_verdict(verifier::verify(rom, sheet))
+}
+
+// A word's row in the manual's list and its operands, or 3.
+#[no_mangle]
+pub extern "C" fn pollwezen_decode(word: u16) -> DecodedRow
+    ensures { λ r. ⌜ r ≡ decodedRowOf word ⌝ }
+{
+    listing::decode(word)
+}
+
+// The word of a row with its operands, or 1 or 10.
+#[no_mangle]
+pub extern "C" fn pollwezen_encode(row: u8, first: u8, second: u8, addr: u16) -> EncodedRow
+    ensures { λ r. ⌜ r ≡ encodedRowOf row (fields first second addr) ⌝ }
+{
+    listing::encode(row, first, second, addr)
+}
+
+// Reads a station file into the lent buffers. A refused file writes nothing.
+#[no_mangle]
+pub extern "C" fn pollwezen_read(
+    file: &[u8],
+    rom: &mut [u16],
+    sheet: &mut [u8],
+    inputs: &mut [u8],
+) -> ReadReply
+    ensures { λ r. ⌜ r ≡ readReplyOf ((readOf form1 (now (file .entry)) (buffersOf (now (rom .entry)) (now (sheet .entry)) (now (inputs .entry)))) .reply) ⌝ }
+    ensures { λ r. ⌜ buffersOf (now (rom .exit)) (now (sheet .exit)) (now (inputs .exit))
+        ≡ (readOf form1 (now (file .entry)) (buffersOf (now (rom .entry)) (now (sheet .entry)) (now (inputs .entry)))) .buffers ⌝ }
+{
+    replies::of_loaded(station_file::read(file, rom, sheet, inputs))
+}
+
+// Writes a station's file to the front of the lent buffer. A refused station writes nothing.
+#[no_mangle]
+pub extern "C" fn pollwezen_write(
+    rom: &[u16],
+    sheet: &[u8],
+    inputs: &[u8],
+    out: &mut [u8],
+) -> OutputReply
+    ensures { λ r. ⌜ r ≡ writeReplyOf ((writeOf form1 (stationOf (now (rom .entry)) (now (sheet .entry)) (now (inputs .entry))) (now (out .entry))) .reply) ⌝ }
+    ensures { λ r. ⌜ now (out .exit) ≡ (writeOf form1 (stationOf (now (rom .entry)) (now (sheet .entry)) (now (inputs .entry))) (now (out .entry))) .out ⌝ }
+{
+    replies::of_written(station_file::write(rom, sheet, inputs, out))
+}
+
+// Puts what `station` prints for a file to the front of the lent buffer. One that is too short stays as it is; one of
+// 100,000 bytes never is.
+#[no_mangle]
+pub extern "C" fn pollwezen_transcript(file: &[u8], out: &mut [u8]) -> OutputReply
+    ensures { λ r. ⌜ r ≡ printReplyOf ((printOf (now (file .entry)) (now (out .entry))) .reply) ⌝ }
+    ensures { λ r. ⌜ now (out .exit) ≡ (printOf (now (file .entry)) (now (out .entry))) .out ⌝ }
+    ensures { λ r. ⌜ length (transcriptOf (now (file .entry))) ≤ 100000 ⌝ }
+{
+    replies::of_printed(transcript::transcript(file, out))
 }

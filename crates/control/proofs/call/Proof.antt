@@ -8,21 +8,6 @@ returns : tie.Need-returns
 unfolding callOf
 returns c = simp (le-leb _ _ (c .if1 .taken))
 
-next-requires : tie.Need-next-requires
-next-requires c κs = search needs
-
-cast-stack : tie.Need-cast-stack
-cast-stack c = search needs
-
-mul-stack : tie.Need-mul-stack
-mul-stack c = search needs
-
-element-write-stack : tie.Need-element-write-stack
-element-write-stack c = search needs
-
-add-t12 : tie.Need-add-t12
-add-t12 c = search needs
-
 returns-2 : tie.Need-returns-2
 unfolding callOf
 returns-2 c = simp (lt-leb _ _ (c .before .if1 .left), c .next .ensures)
@@ -30,4 +15,4 @@ returns-2 c = simp (lt-leb _ _ (c .before .if1 .left), c .next .ensures)
 pub call-spec : {M : Type 1} → statement M
 call-spec =
     tie.close
-    (tie.spec returns next-requires cast-stack mul-stack element-write-stack add-t12 returns-2)
+    (tie.spec returns (λ c κs. search needs) (λ c. search needs) (λ c. search needs) (λ c. search needs) (λ c. search needs) returns-2)

@@ -6,11 +6,8 @@ use Rattle.control.proofs.call_in_reach.Tie as tie
 returns : tie.Need-returns
 returns c = simp (le-leb _ _ (c .if1 .taken))
 
-call-requires : tie.Need-call-requires
-call-requires c κs = search needs
-
 returns-2 : tie.Need-returns-2
 returns-2 c = simp (lt-leb _ _ (c .before .before .if1 .left)) (c .call .ensures)
 
 pub call-in-reach-spec : {M : Type 1} → statement M
-call-in-reach-spec = tie.close (tie.spec returns call-requires returns-2)
+call-in-reach-spec = tie.close (tie.spec returns (λ c κs. search needs) returns-2)

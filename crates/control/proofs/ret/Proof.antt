@@ -9,21 +9,9 @@ returns : tie.Need-returns
 unfolding returnOf
 returns c = simp (eq-eqb _ _ (c .if1 .taken))
 
-sub-below : tie.Need-sub-below
-sub-below c = search needs
-
-address-on-requires : tie.Need-address-on-requires
-address-on-requires c κs = search needs
-
-clear-requires : tie.Need-clear-requires
-clear-requires c κs = search needs
-
-cast-t12 : tie.Need-cast-t12
-cast-t12 c = search needs
-
 returns-2 : tie.Need-returns-2
 unfolding returnOf
 returns-2 c = simp (ne-eqb _ _ (c .before .before .before .before .if1 .left), c .clear .ensures, c .before .before .address-on .ensures, byte-bit)
 
 pub ret-spec : {M : Type 1} → statement M
-ret-spec = tie.close (tie.spec returns sub-below address-on-requires clear-requires cast-t12 returns-2)
+ret-spec = tie.close (tie.spec returns (λ c. search needs) (λ c κs. search needs) (λ c κs. search needs) (λ c. search needs) returns-2)

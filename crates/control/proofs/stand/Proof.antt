@@ -3,12 +3,9 @@ use borrow.Author.Needs.{needs}
 use Rattle.control.proofs.stand.Statement.{statement}
 use Rattle.control.proofs.stand.Tie as tie
 
-next-requires : tie.Need-next-requires
-next-requires c κs = search needs
-
 returns : tie.Need-returns
 unfolding standbyOf
 returns c = λ stack. rw (c .next .ensures)
 
 pub stand-spec : {M : Type 1} → statement M
-stand-spec = tie.close (tie.spec next-requires returns)
+stand-spec = tie.close (tie.spec (λ c κs. search needs) returns)

@@ -8,12 +8,9 @@ returns : tie.Need-returns
 unfolding tableOf
 returns c = λ stack. simp (le-leb _ _ (c .if1 .taken))
 
-next-requires : tie.Need-next-requires
-next-requires c κs = search needs
-
 returns-2 : tie.Need-returns-2
 unfolding tableOf
 returns-2 c = λ stack. simp (lt-leb _ _ (c .before .if1 .left), c .next .ensures)
 
 pub table-spec : {M : Type 1} → statement M
-table-spec = tie.close (tie.spec returns next-requires returns-2)
+table-spec = tie.close (tie.spec returns (λ c κs. search needs) returns-2)

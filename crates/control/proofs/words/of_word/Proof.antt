@@ -13,9 +13,6 @@ returns : tie.Need-returns
 unfolding decodeOf
 returns c = arithmetic-flow _ _ _ _ (op-below _ (c .before .fits .word .fits)) (c .if1 .taken)
 
-of-group-requires : tie.Need-of-group-requires
-of-group-requires c κs = search needs
-
 returns-2 : tie.Need-returns-2
 unfolding decodeOf entryOf overview
 returns-2 c = rw (c .before .match .keys1) (c .of-group .ensures)
@@ -49,7 +46,7 @@ of-word-spec =
     tie.close
     (tie.spec
     returns
-    of-group-requires
+    (λ c κs. search needs)
     returns-2
     returns-3
     returns-4

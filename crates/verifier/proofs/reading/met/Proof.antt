@@ -11,15 +11,9 @@ returns : tie.Need-returns
 unfolding met
 returns c = simp (le-ltb _ _ (c .if1 .taken))
 
-entry-at-requires : tie.Need-entry-at-requires
-entry-at-requires c κs = search needs
-
-covers-requires : tie.Need-covers-requires
-covers-requires c κs = search needs
-
 returns-2 : tie.Need-returns-2
 unfolding met
 returns-2 c = rw (lt-ltb _ _ (c .before .before .if1 .left)) (c .covers .ensures ∙ ap (λ (e : ℕ). covers 5 e (c .before .before .before .before .before .args .asked)) (c .before .entry-at .ensures))
 
 pub met-spec : {M : Type 1} → statement M
-met-spec = tie.close (tie.spec returns entry-at-requires covers-requires returns-2)
+met-spec = tie.close (tie.spec returns (λ c κs. search needs) (λ c κs. search needs) returns-2)

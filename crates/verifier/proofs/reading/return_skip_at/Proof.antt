@@ -14,15 +14,6 @@ returns c =
     let o = c .before .before .args in
     sym (ap (λ (w : ℕ). isReturnSkip (wordFlow w)) (getD-past (o .rom .now) (o .word) noWord (c .if1 .taken)))
 
-mul-is-return-skip : tie.Need-mul-is-return-skip
-mul-is-return-skip c = search needs
-
-shared-slice-read-is-return-skip : tie.Need-shared-slice-read-is-return-skip
-shared-slice-read-is-return-skip c = search needs
-
-is-return-skip-requires : tie.Need-is-return-skip-requires
-is-return-skip-requires c κs = search needs
-
 returns-2 : tie.Need-returns-2
 returns-2 c =
     let o = c .before .before .before .before .args in
@@ -30,4 +21,4 @@ returns-2 c =
 
 pub return-skip-at-spec : {M : Type 1} → statement M
 return-skip-at-spec =
-    tie.close (tie.spec returns mul-is-return-skip shared-slice-read-is-return-skip is-return-skip-requires returns-2)
+    tie.close (tie.spec returns (λ c. search needs) (λ c. search needs) (λ c κs. search needs) returns-2)

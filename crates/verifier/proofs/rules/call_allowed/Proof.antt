@@ -9,29 +9,14 @@ use borrow.Author.Needs.{needs}
 use Rattle.verifier.proofs.rules.call_allowed.Statement.{statement}
 use Rattle.verifier.proofs.rules.call_allowed.Tie as tie
 
-sub-at-most : tie.Need-sub-at-most
-sub-at-most c = search needs
-
-at-most-requires : tie.Need-at-most-requires
-at-most-requires c κs = search needs
-
 returns : tie.Need-returns
 returns c = simp (sym (c .before .at-most .ensures) ∙ not-true _ (c .if1 .taken))
-
-raised-requires : tie.Need-raised-requires
-raised-requires c κs = search needs
-
-met-requires : tie.Need-met-requires
-met-requires c κs = search needs
 
 returns-2 : tie.Need-returns-2
 returns-2 c =
     let free = sym (c .before .before .before .before .at-most .ensures) ∙ not-false _ (c .before .before .before .if1 .left) in
     let higher = c .before .before .raised .ensures ∙ raised-byte 5 (lit< tt) _ free (lit< tt) in
     simp (free, sym higher, sym (c .before .met .ensures) ∙ not-true _ (c .if2 .taken))
-
-shares-any-requires : tie.Need-shares-any-requires
-shares-any-requires c κs = search needs
 
 returns-3 : tie.Need-returns-3
 unfolding ReturnDepths
@@ -45,15 +30,6 @@ returns-3 c =
       sym (c .before .before .before .met .ensures) ∙ not-false _ (c .before .before .if2 .left),
       sym (c .before .before .before .before .before .before .before .before .before .pre _ there) ∙ sym (c .before .shares-any .ensures) ∙ not-true _ (c .if3 .taken),
     )
-
-next-requires : tie.Need-next-requires
-next-requires c κs = search needs
-
-next-requires-2 : tie.Need-next-requires-2
-next-requires-2 c κs = search needs
-
-met-requires-2 : tie.Need-met-requires-2
-met-requires-2 c κs = search needs
 
 returns-4 : tie.Need-returns-4
 unfolding ReturnDepths
@@ -76,15 +52,15 @@ pub call-allowed-spec : {M : Type 1} → statement M
 call-allowed-spec =
     tie.close
     (tie.spec
-    sub-at-most
-    at-most-requires
+    (λ c. search needs)
+    (λ c κs. search needs)
     returns
-    raised-requires
-    met-requires
+    (λ c κs. search needs)
+    (λ c κs. search needs)
     returns-2
-    shares-any-requires
+    (λ c κs. search needs)
     returns-3
-    next-requires
-    next-requires-2
-    met-requires-2
+    (λ c κs. search needs)
+    (λ c κs. search needs)
+    (λ c κs. search needs)
     returns-4)

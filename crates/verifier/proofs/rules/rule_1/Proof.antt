@@ -9,12 +9,9 @@ returns : tie.Need-returns
 unfolding rule1
 returns c = simp (ne-eqb _ _ (c .if1 .taken))
 
-holds-requires : tie.Need-holds-requires
-holds-requires c κs = search needs
-
 returns-2 : tie.Need-returns-2
 unfolding rule1
 returns-2 c = rw (eq-eqb _ _ (c .before .if1 .left)) (c .holds .ensures)
 
 pub rule-1-spec : {M : Type 1} → statement M
-rule-1-spec = tie.close (tie.spec returns holds-requires returns-2)
+rule-1-spec = tie.close (tie.spec returns (λ c κs. search needs) returns-2)

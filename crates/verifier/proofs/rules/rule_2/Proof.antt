@@ -3,12 +3,9 @@ use borrow.Author.Needs.{needs}
 use Rattle.verifier.proofs.rules.rule_2.Statement.{statement}
 use Rattle.verifier.proofs.rules.rule_2.Tie as tie
 
-proper-requires : tie.Need-proper-requires
-proper-requires c κs = search needs
-
 returns : tie.Need-returns
 unfolding rule2
 returns c = c .proper .ensures
 
 pub rule-2-spec : {M : Type 1} → statement M
-rule-2-spec = tie.close (tie.spec proper-requires returns)
+rule-2-spec = tie.close (tie.spec (λ c κs. search needs) returns)

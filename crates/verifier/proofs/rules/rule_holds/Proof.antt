@@ -7,37 +7,16 @@ use borrow.Author.Needs.{needs}
 use Rattle.verifier.proofs.rules.rule_holds.Statement.{statement}
 use Rattle.verifier.proofs.rules.rule_holds.Tie as tie
 
-rule-1-requires : tie.Need-rule-1-requires
-rule-1-requires c κs = search needs
-
 returns : tie.Need-returns
 unfolding ruleOf
 returns c = rw (c .before .if1 .taken) (c .rule-1 .ensures)
-
-rule-2-requires : tie.Need-rule-2-requires
-rule-2-requires c κs = search needs
 
 returns-2 : tie.Need-returns-2
 unfolding ruleOf
 returns-2 c = rw (c .before .if2 .taken) (c .rule-2 .ensures)
 
-reached-requires : tie.Need-reached-requires
-reached-requires c κs = search needs
-
 returns-3 : tie.Need-returns-3
 returns-3 c = sym (unreached-holds _ _ _ _ _ _ _ (sym (c .before .reached .ensures) ∙ not-true _ (c .if3 .taken)) (search needs) (search needs))
-
-rule-3-requires : tie.Need-rule-3-requires
-rule-3-requires c κs = search needs
-
-rule-4-requires : tie.Need-rule-4-requires
-rule-4-requires c κs = search needs
-
-rule-5-requires : tie.Need-rule-5-requires
-rule-5-requires c κs = search needs
-
-rule-6-requires : tie.Need-rule-6-requires
-rule-6-requires c κs = search needs
 
 returns-4 : tie.Need-returns-4
 unfolding ruleOf
@@ -59,16 +38,16 @@ pub rule-holds-spec : {M : Type 1} → statement M
 rule-holds-spec =
     tie.close
     (tie.spec
-    rule-1-requires
+    (λ c κs. search needs)
     returns
-    rule-2-requires
+    (λ c κs. search needs)
     returns-2
-    reached-requires
+    (λ c κs. search needs)
     returns-3
-    rule-3-requires
-    rule-4-requires
-    rule-5-requires
-    rule-6-requires
+    (λ c κs. search needs)
+    (λ c κs. search needs)
+    (λ c κs. search needs)
+    (λ c κs. search needs)
     returns-4
     returns-5
     returns-6

@@ -5,20 +5,11 @@ use borrow.Author.Needs.{needs}
 use Rattle.verifier.proofs.rules.skip_met.Statement.{statement}
 use Rattle.verifier.proofs.rules.skip_met.Tie as tie
 
-met-requires : tie.Need-met-requires
-met-requires c κs = search needs
-
 returns : tie.Need-returns
 returns c = simp (sym (c .before .met .ensures) ∙ not-true _ (c .if1 .taken))
-
-next-requires : tie.Need-next-requires
-next-requires c κs = search needs
-
-met-requires-2 : tie.Need-met-requires-2
-met-requires-2 c κs = search needs
 
 returns-2 : tie.Need-returns-2
 returns-2 c = simp (sym (c .before .before .before .met .ensures) ∙ not-false _ (c .before .before .if1 .left), sym (c .before .next .ensures), sym (c .met2 .ensures), and-true)
 
 pub skip-met-spec : {M : Type 1} → statement M
-skip-met-spec = tie.close (tie.spec met-requires returns next-requires met-requires-2 returns-2)
+skip-met-spec = tie.close (tie.spec (λ c κs. search needs) returns (λ c κs. search needs) (λ c κs. search needs) returns-2)

@@ -6,14 +6,8 @@ use Rattle.verifier.proofs.rules.table_allowed.Tie as tie
 returns : tie.Need-returns
 returns c = simp (ne-eqb _ _ (c .if1 .taken))
 
-sub-at-most : tie.Need-sub-at-most
-sub-at-most c = search needs
-
-at-most-requires : tie.Need-at-most-requires
-at-most-requires c κs = search needs
-
 returns-2 : tie.Need-returns-2
 returns-2 c = rw (eq-eqb _ _ (c .before .if1 .left)) (c .at-most .ensures)
 
 pub table-allowed-spec : {M : Type 1} → statement M
-table-allowed-spec = tie.close (tie.spec returns sub-at-most at-most-requires returns-2)
+table-allowed-spec = tie.close (tie.spec returns (λ c. search needs) (λ c κs. search needs) returns-2)

@@ -28,20 +28,8 @@ returns-2 c = promised _ _ _ (long _ _ (c .if2 .taken))
 returns-3 : tie.Need-returns-3 Inv-rules μ-rules Inv-words μ-words
 returns-3 c = promised _ _ _ (unlike _ _ (c .before .before .if1 .left) (c .before .if2 .left) (c .if3 .taken))
 
-return-depths-requires : tie.Need-return-depths-requires Inv-rules μ-rules Inv-words μ-words
-return-depths-requires c κs = search needs
-
 words-holds : tie.Need-words-holds Inv-rules μ-rules Inv-words μ-words
 words-holds c = (search needs, no-word _ _)
-
-cast-if4 : tie.Need-cast-if4 Inv-rules μ-rules Inv-words μ-words
-cast-if4 c = search needs
-
-flow-at-requires : tie.Need-flow-at-requires Inv-rules μ-rules Inv-words μ-words
-flow-at-requires c κs = search needs
-
-entry-at-requires : tie.Need-entry-at-requires Inv-rules μ-rules Inv-words μ-words
-entry-at-requires c κs = search needs
 
 rules-holds : tie.Need-rules-holds Inv-rules μ-rules Inv-words μ-words
 rules-holds c = (search needs, search needs, no-rule _ _ _)
@@ -49,20 +37,8 @@ rules-holds c = (search needs, search needs, no-rule _ _ _)
 rule-holds-requires : tie.Need-rule-holds-requires Inv-rules μ-rules Inv-words μ-words
 rule-holds-requires c κs = (c .before .before .before .before .before .before .return-depths .ensures, search needs, search needs)
 
-add-rule : tie.Need-add-rule Inv-rules μ-rules Inv-words μ-words
-add-rule c = search needs
-
-rules-less : tie.Need-rules-less Inv-rules μ-rules Inv-words μ-words
-rules-less c = search needs
-
 rules-again : tie.Need-rules-again Inv-rules μ-rules Inv-words μ-words
 rules-again c = (search needs, search needs, rule-more _ _ _ _ (c .before .before .before .rules .inv .0) (c .before .before .before .rules .inv .2) (of-word _ _ _ _ _ _ _ _ (c .before .before .before .before .before .flow-at .ensures) (c .before .before .before .before .entry-at .ensures) (c .before .rule-holds .ensures) (not-false _ (c .if5 .left))))
-
-add-word : tie.Need-add-word Inv-rules μ-rules Inv-words μ-words
-add-word c = search needs
-
-words-less : tie.Need-words-less Inv-rules μ-rules Inv-words μ-words
-words-less c = search needs
 
 words-again : tie.Need-words-again Inv-rules μ-rules Inv-words μ-words
 words-again c = (search needs, word-more _ _ _ _ (search needs) (c .before .rules .inv .2) (c .before .before .before .before .before .words .inv .1))
@@ -84,18 +60,18 @@ verify-spec =
     returns
     returns-2
     returns-3
-    return-depths-requires
+    (λ c κs. search needs)
     words-holds
-    cast-if4
-    flow-at-requires
-    entry-at-requires
+    (λ c. search needs)
+    (λ c κs. search needs)
+    (λ c κs. search needs)
     rules-holds
     rule-holds-requires
-    add-rule
-    rules-less
+    (λ c. search needs)
+    (λ c. search needs)
     rules-again
-    add-word
-    words-less
+    (λ c. search needs)
+    (λ c. search needs)
     words-again
     returns-4
     returns-5)
