@@ -2,86 +2,90 @@
 // tests/layout.c and compare/ to find.
 ghost use mathlib.Core.Path.{_≡_};
 ghost use Prim.Native.Nat.{_≤_};
-ghost use Rattle.layout.specs.Laid.{checkOf, codeOf, countOf, inputOf, laidOf, listingOf, outputOf, recordOf, reportOf};
-use coding::Coded;
-use records::Inputs;
-use records::Record;
-use records::Report;
-use replies::Checked;
-use replies::Counts;
-use replies::Output;
-use rows::Listed;
+ghost use Rattle.layout.specs.Laid.{decodedRowOf, encodedRowOf, inputOf, laidOf, machineOf, outputReplyOf, readReplyOf, runReplyOf, verdictReplyOf};
+use listing::DecodedRow;
+use listing::EncodedRow;
+use machine::Control;
+use machine::Input;
+use machine::Machine;
+use memory::Memory;
+use pollwezen::OutputReply;
+use pollwezen::ReadReply;
+use pollwezen::RunReply;
+use pollwezen::VerdictReply;
 
 // Two of each struct, so that the second lies where the first ends.
 #[repr(C)]
 pub struct Laid {
-    pub records: [Record; 2],
-    pub inputs: [Inputs; 2],
-    pub reports: [Report; 2],
-    pub checks: [Checked; 2],
-    pub counts: [Counts; 2],
-    pub outputs: [Output; 2],
-    pub listings: [Listed; 2],
-    pub codes: [Coded; 2],
+    pub machines: [Machine; 2],
+    pub inputs: [Input; 2],
+    pub run_replies: [RunReply; 2],
+    pub verdict_replies: [VerdictReply; 2],
+    pub read_replies: [ReadReply; 2],
+    pub output_replies: [OutputReply; 2],
+    pub decoded_rows: [DecodedRow; 2],
+    pub encoded_rows: [EncodedRow; 2],
 }
 
-fn record(byte: u8, word: u16) -> Record
+fn machine_with(byte: u8, word: u16) -> Machine
     requires { ⌜ (12 ≤ byte) × (9 ≤ word) ⌝ }
-    ensures { λ r. ⌜ r ≡ recordOf byte word ⌝ }
+    ensures { λ r. ⌜ r ≡ machineOf byte word ⌝ }
 {
     let mut cells = [byte - 1; 128];
     cells[0] = byte - 2;
     cells[127] = byte - 3;
     let stack = [word - 5, word - 6, word - 7, word - 8, word - 9];
-    Record {
-        cells: cells,
-        pc: word - 4,
-        stack: stack,
-        levels: byte - 10,
-        skip: byte - 11,
-        standby: byte - 12,
+    Machine {
+        memory: Memory { cells: cells },
+        control: Control {
+            pc: word - 4,
+            stack: stack,
+            levels: byte - 10,
+            skip: byte - 11,
+            standby: byte - 12,
+        },
     }
 }
 
-fn input(byte: u8) -> Inputs
+fn input_with(byte: u8) -> Input
     requires { ⌜ 11 ≤ byte ⌝ }
     ensures { λ r. ⌜ r ≡ inputOf byte ⌝ }
 {
     let pins = [byte - 1, byte - 2, byte - 3, byte - 4, byte - 5];
     let directions = [byte - 6, byte - 7, byte - 8, byte - 9, byte - 10];
-    Inputs {
+    Input {
         pins: pins,
         directions: directions,
         release: byte - 11,
     }
 }
 
-fn report(byte: u8, long: u32) -> Report
+fn run_reply_with(byte: u8, long: u32) -> RunReply
     requires { ⌜ (2 ≤ byte) × (1 ≤ long) ⌝ }
-    ensures { λ r. ⌜ r ≡ reportOf byte long ⌝ }
+    ensures { λ r. ⌜ r ≡ runReplyOf byte long ⌝ }
 {
-    Report {
+    RunReply {
         steps: long - 1,
         number: byte - 2,
     }
 }
 
-fn check(byte: u8, word: u16) -> Checked
+fn verdict_reply_with(byte: u8, word: u16) -> VerdictReply
     requires { ⌜ (3 ≤ byte) × (2 ≤ word) ⌝ }
-    ensures { λ r. ⌜ r ≡ checkOf byte word ⌝ }
+    ensures { λ r. ⌜ r ≡ verdictReplyOf byte word ⌝ }
 {
-    Checked {
+    VerdictReply {
         number: byte - 1,
         word: word - 2,
         rule: byte - 3,
     }
 }
 
-fn count(byte: u8, size: usize) -> Counts
+fn read_reply_with(byte: u8, size: usize) -> ReadReply
     requires { ⌜ (1 ≤ byte) × (4 ≤ size) ⌝ }
-    ensures { λ r. ⌜ r ≡ countOf byte size ⌝ }
+    ensures { λ r. ⌜ r ≡ readReplyOf byte size ⌝ }
 {
-    Counts {
+    ReadReply {
         number: byte - 1,
         words: size - 2,
         entries: size - 3,
@@ -89,21 +93,21 @@ fn count(byte: u8, size: usize) -> Counts
     }
 }
 
-fn length(byte: u8, size: usize) -> Output
+fn output_reply_with(byte: u8, size: usize) -> OutputReply
     requires { ⌜ (1 ≤ byte) × (2 ≤ size) ⌝ }
-    ensures { λ r. ⌜ r ≡ outputOf byte size ⌝ }
+    ensures { λ r. ⌜ r ≡ outputReplyOf byte size ⌝ }
 {
-    Output {
+    OutputReply {
         number: byte - 1,
         length: size - 2,
     }
 }
 
-fn listing(byte: u8, word: u16) -> Listed
+fn decoded_row_with(byte: u8, word: u16) -> DecodedRow
     requires { ⌜ (4 ≤ byte) × (5 ≤ word) ⌝ }
-    ensures { λ r. ⌜ r ≡ listingOf byte word ⌝ }
+    ensures { λ r. ⌜ r ≡ decodedRowOf byte word ⌝ }
 {
-    Listed {
+    DecodedRow {
         number: byte - 1,
         row: byte - 2,
         first: byte - 3,
@@ -112,11 +116,11 @@ fn listing(byte: u8, word: u16) -> Listed
     }
 }
 
-fn code(byte: u8, word: u16) -> Coded
+fn encoded_row_with(byte: u8, word: u16) -> EncodedRow
     requires { ⌜ (1 ≤ byte) × (2 ≤ word) ⌝ }
-    ensures { λ r. ⌜ r ≡ codeOf byte word ⌝ }
+    ensures { λ r. ⌜ r ≡ encodedRowOf byte word ⌝ }
 {
-    Coded {
+    EncodedRow {
         number: byte - 1,
         word: word - 2,
     }
@@ -128,23 +132,26 @@ fn all() -> Laid
 {
     let size: usize = 18446744073709551615;
     let half: usize = 9223372036854775807;
-    let records = [record(255, 65535), record(127, 32767)];
-    let inputs = [input(255), input(127)];
-    let reports = [report(255, 4294967295), report(127, 2147483647)];
-    let checks = [check(255, 65535), check(127, 32767)];
-    let counts = [count(255, size), count(127, half)];
-    let outputs = [length(255, size), length(127, half)];
-    let listings = [listing(255, 65535), listing(127, 32767)];
-    let codes = [code(255, 65535), code(127, 32767)];
+    let machines = [machine_with(255, 65535), machine_with(127, 32767)];
+    let inputs = [input_with(255), input_with(127)];
+    let run_replies = [
+        run_reply_with(255, 4294967295),
+        run_reply_with(127, 2147483647),
+    ];
+    let verdict_replies = [verdict_reply_with(255, 65535), verdict_reply_with(127, 32767)];
+    let read_replies = [read_reply_with(255, size), read_reply_with(127, half)];
+    let output_replies = [output_reply_with(255, size), output_reply_with(127, half)];
+    let decoded_rows = [decoded_row_with(255, 65535), decoded_row_with(127, 32767)];
+    let encoded_rows = [encoded_row_with(255, 65535), encoded_row_with(127, 32767)];
     Laid {
-        records: records,
+        machines: machines,
         inputs: inputs,
-        reports: reports,
-        checks: checks,
-        counts: counts,
-        outputs: outputs,
-        listings: listings,
-        codes: codes,
+        run_replies: run_replies,
+        verdict_replies: verdict_replies,
+        read_replies: read_replies,
+        output_replies: output_replies,
+        decoded_rows: decoded_rows,
+        encoded_rows: encoded_rows,
     }
 }
 
