@@ -12,7 +12,7 @@ use Rattle.laws.proofs.Every.{every-at, passed}
 use Rattle.memory.specs.Chip.{upd17132, masks17132}
 use Rattle.memory.specs.Names.{AR3, AR2}
 use Rattle.memory.specs.Range.{cellInRange, cellsInRange}
-use Rattle.registers.specs.Registers.{arOf}
+use Rattle.memory.specs.Registers.{arOf}
 use Rattle.memory.specs.Write.{keptOf}
 use Rattle.cpu.proofs.Ranged.{ArFits}
 

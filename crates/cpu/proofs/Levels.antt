@@ -11,12 +11,13 @@ use lib.ListN.{getD, set, length, List·getD-eq-default}
 use lib.Pow.{pow-pos}
 use lib.Seq.{getD-set-same, getD-set-other, set-out}
 use Rattle.laws.proofs.Every.{every-at, every-of, passed, holds}
+use Rattle.laws.proofs.Bits.{bit-below}
 use Rattle.laws.proofs.Wrap.{wrap-below}
 use Rattle.memory.specs.Chip.{Chip}
-use Rattle.control.specs.Control.{jump, marked, push, pop, top, next, onwards}
-use Rattle.machine.specs.Ranges.{places, levelInRange, controlInRange}
+use Rattle.control.specs.Control.{jumpTo, withSkip, withStandby, pushed as pushedOf, popped as poppedOf, topOf, nextOf, onwards}
+use Rattle.machine.specs.Ranges.{places, levelInRange, controlInRange, marksInRange}
 use Rattle.machine.specs.declared.Control.{Control}
-use Rattle.cpu.proofs.Inside.{control-parts}
+use Rattle.cpu.proofs.RangeParts.{control-parts, marks-parts}
 
 -- the chip has no more levels than the record has places
 module _ (chip : Chip) (small : chip .levels ≤ places) where
@@ -44,11 +45,14 @@ module _ (chip : Chip) (small : chip .levels ≤ places) where
     pub pc : c .pc < bound
     pub levels : c .levels ≤ chip .levels
     pub each : (k : ℕ) → k < places → Level (ltb k (c .levels)) (getD (c .stack) k 0)
+    pub skip : c .skip ≤ 1
+    pub standby : c .standby ≤ 1
 
-  pub fine : (c : Control) → controlInRange chip c ≡ true → Fine c
-  fine c e =
+  pub fine : (c : Control) → controlInRange chip c ≡ true → marksInRange c ≡ true → Fine c
+  fine c e m =
       let p = control-parts chip c e in
-      record { pc = p .0; levels = p .1 .0; each = λ k h. every-at (levelInRange chip c) places (passed (p .1 .1)) k h }
+      let q = marks-parts c m in
+      record { pc = p .0; levels = p .1 .0; each = λ k h. every-at (levelInRange chip c) places (passed (p .1 .1)) k h; skip = q .0; standby = q .1 }
 
   pub in-range : (c : Control) → Fine c → controlInRange chip c ≡ true
   unfolding controlInRange
@@ -56,14 +60,21 @@ module _ (chip : Chip) (small : chip .levels ≤ places) where
       rw (lt-ltb (c .pc) bound (f .pc), le-leb (c .levels) (chip .levels) (f .levels))
       (holds (every-of (levelInRange chip c) places (f .each)))
 
-  pub jumped : (to : ℕ) (c : Control) → to < bound → Fine c → Fine (jump to c)
-  jumped to c h f = record { pc = h; levels = f .levels; each = f .each }
+  pub marks-in-range : (c : Control) → Fine c → marksInRange c ≡ true
+  unfolding marksInRange
+  marks-in-range c f = rw (le-leb (c .skip) 1 (f .skip), le-leb (c .standby) 1 (f .standby))
+
+  pub jumped : (to : ℕ) (c : Control) → to < bound → Fine c → Fine (jumpTo to c)
+  jumped to c h f = record { pc = h; levels = f .levels; each = f .each; skip = f .skip; standby = f .standby }
 
   pub went-on : (c : Control) → Fine c → Fine (onwards chip c)
-  went-on c f = jumped (next chip c) c (wrap-below (chip .pcBits) (c .pc)) f
+  went-on c f = jumped (nextOf chip (c .pc)) c (wrap-below (chip .pcBits) (c .pc)) f
 
-  pub with-marks : (skip standby : Bool) (c : Control) → Fine c → Fine (marked skip standby c)
-  with-marks skip standby c f = record { pc = f .pc; levels = f .levels; each = f .each }
+  pub with-skip : (skip : Bool) (c : Control) → Fine c → Fine (withSkip skip c)
+  with-skip skip c f = record { pc = f .pc; levels = f .levels; each = f .each; skip = bit-below skip; standby = f .standby }
+
+  pub with-standby : (mark : ℕ) (c : Control) → mark ≤ 1 → Fine c → Fine (withStandby mark c)
+  with-standby mark c h f = record { pc = f .pc; levels = f .levels; each = f .each; skip = f .skip; standby = h }
 
   pushed-level : (stack : List ℕ) (n a k : ℕ) (below here inside : Bool) → ltb k n ≡ below → eqb k n ≡ here
       → ltb n (length stack) ≡ inside → a < bound → Level (ltb k n) (getD stack k 0) → Level (ltb k (n + 1)) (getD (set stack n a) k 0)
@@ -81,13 +92,15 @@ module _ (chip : Chip) (small : chip .levels ≤ places) where
       let n≤k : n ≤ k = ltb-false k n b in
       rw (getD-set-other stack n k a 0 (eqb-false k n e), closed-zero (ltb k n) (getD stack k 0) b t) (zero-fits (ltb k (n + 1)))
 
-  pub pushed : (a : ℕ) (c : Control) → a < bound → c .levels < chip .levels → Fine c → Fine (push a c)
+  pub pushed : (a : ℕ) (c : Control) → a < bound → c .levels < chip .levels → Fine c → Fine (pushedOf a c)
   pushed a c h l f = record {
     pc = f .pc;
     levels = omega arith;
     each = λ k b.
         pushed-level (c .stack) (c .levels) a k (ltb k (c .levels)) (eqb k (c .levels)) (ltb (c .levels) (length (c .stack))) refl refl refl h
         (f .each k b);
+    skip = f .skip;
+    standby = f .standby;
   }
 
   popped-level : (stack : List ℕ) (n k : ℕ) (below here inside : Bool) → 0 < n → ltb k (n - 1) ≡ below → eqb k (n - 1) ≡ here
@@ -109,16 +122,18 @@ module _ (chip : Chip) (small : chip .levels ≤ places) where
       rw (getD-set-other stack (n - 1) k 0 0 k≢n, closed-zero (ltb k n) (getD stack k 0) (le-ltb k n (omega arith)) t)
       (zero-fits (ltb k (n - 1)))
 
-  pub popped : (c : Control) → 0 < c .levels → Fine c → Fine (pop c)
+  pub popped : (c : Control) → 0 < c .levels → Fine c → Fine (poppedOf c)
   popped c p f = record {
     pc = f .pc;
     levels = omega (arith, f .levels);
     each = λ k b.
         popped-level (c .stack) (c .levels) k (ltb k (c .levels - 1)) (eqb k (c .levels - 1)) (ltb (c .levels - 1) (length (c .stack))) p
         refl refl refl (f .each k b);
+    skip = f .skip;
+    standby = f .standby;
   }
 
-  pub top-below : (c : Control) → 0 < c .levels → Fine c → top c < bound
+  pub top-below : (c : Control) → 0 < c .levels → Fine c → topOf c < bound
   top-below c p f =
-      open-below (ltb (c .levels - 1) (c .levels)) (top c) (lt-ltb (c .levels - 1) (c .levels) (omega arith))
+      open-below (ltb (c .levels - 1) (c .levels)) (topOf c) (lt-ltb (c .levels - 1) (c .levels) (omega arith))
       (f .each (c .levels - 1) (omega (arith, f .levels)))

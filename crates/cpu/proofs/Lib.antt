@@ -1,7 +1,9 @@
 pub mod Phases
-pub mod Inside
+pub mod RangeParts
 pub mod Levels
 pub mod Ranged
 pub mod ArFits
 pub mod Turns
 pub mod Loop
+pub mod Settled
+pub mod Refused

@@ -1,20 +1,17 @@
 -- One turn of a run.
 -- Assumes nothing.
 use mathlib.Core.Path.{_≡_, _∙_, ap, refl, sym}
-use mathlib.Core.Bool.{Bool, true, false, _&&_}
+use mathlib.Core.Bool.{true, false, and-false}
 use mathlib.Core.List.{List}
 use Prim.Native.Nat.{ℕ, suc, _+_, _-_, _<_, _≤_}
 use native.Mathlib.Nat.{add-zero}
 use native.Mathlib.Omega.{arith}
 use borrow.Author.Tests.{le-leb, lt-leb}
 use Rattle.memory.specs.Chip.{Chip}
-use Rattle.execution.specs.Reply.{Reply, done, inStandby, refused, Step}
-use Rattle.cpu.specs.Answers.{costOf, refusalOf, Run}
-use Rattle.control.specs.Control.{isStandby}
+use Rattle.cpu.specs.Reply.{Reply, done, inStandby, refused, costOf, refusalOf, Step, completedStep, refusedStep}
 use Rattle.machine.specs.Ranges.{machineInRange, inputInRange, romInRange, allInRange, budgetInRange}
-use Rattle.cpu.specs.Run.{runFrom, runOf, afterStep, ended}
-use Rattle.cpu.specs.Step.{stepOf, advanceOf}
-use Rattle.execution.specs.Execute.{denied}
+use Rattle.cpu.specs.Run.{Run, runFrom, runOf, afterStep, ended}
+use Rattle.cpu.specs.Step.{isStanding, stepOf, advanceOf}
 use Rattle.machine.specs.declared.Input.{Input}
 use Rattle.machine.specs.declared.Machine.{Machine}
 
@@ -28,7 +25,7 @@ module _ (chip : Chip) (rom : List ℕ) (input : Input) where
   unfolding stepOf
   step-advances m e = rw e
 
-  pub step-refused : (m : Machine) → allInRange chip rom m input ≡ false → denied 1 m ≡ stepOf chip rom input m
+  pub step-refused : (m : Machine) → allInRange chip rom m input ≡ false → refusedStep 1 m ≡ stepOf chip rom input m
   unfolding stepOf
   step-refused m e = rw e
 
@@ -53,14 +50,14 @@ module _ (chip : Chip) (rom : List ℕ) (input : Input) where
         rw (← l) (turn (budget - (steps + 1)) steps m s (e ∙ sym (step-advances m fine)))
 
     -- a completed step, and the run goes on
-    pub goes-on : (after : Machine) → record { reply = done; machine = after } ≡ advanceOf chip rom input m → isStandby (after .control) ≡ false
+    pub goes-on : (after : Machine) → completedStep after ≡ advanceOf chip rom input m → isStanding after ≡ false
         → here ≡ runFrom chip rom input (budget - (steps + 1)) (steps + 1) after
-    goes-on after e b = taken (record { reply = done; machine = after }) e ∙ rw b
+    goes-on after e b = taken (completedStep after) e ∙ rw b
 
     -- a completed step that leaves the machine standing
-    pub stands : (after : Machine) → record { reply = done; machine = after } ≡ advanceOf chip rom input m → isStandby (after .control) ≡ true
+    pub stands : (after : Machine) → completedStep after ≡ advanceOf chip rom input m → isStanding after ≡ true
         → here ≡ ended (steps + 1) 0 after
-    stands after e b = taken (record { reply = done; machine = after }) e ∙ rw b
+    stands after e b = taken (completedStep after) e ∙ rw b
 
     not-completed : (r : Reply) (after : Machine) (rest : Run) → (r ≡ done → ⊥)
         → afterStep (steps + costOf r .steps) after r rest ≡ ended steps (refusalOf r) after
@@ -81,10 +78,6 @@ module _ (chip : Chip) (rom : List ℕ) (input : Input) where
       rw e
 
   -- how a run begins
-  and-false : (b : Bool) → (b && false) ≡ false
-  and-false true = refl
-  and-false false = refl
-
   pub begins : (budget : ℕ) (m : Machine) → budget ≤ 65535 → allInRange chip rom m input ≡ true
       → runFrom chip rom input budget 0 m ≡ runOf chip rom input budget m
   unfolding runOf budgetInRange

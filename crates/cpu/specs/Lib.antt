@@ -1,5 +1,6 @@
-pub mod Answers
+pub mod Reply
+pub mod Execute
 pub mod Step
 pub mod Run
-pub mod InPlace
-pub mod Inside
+pub mod Answers
+pub mod Joined

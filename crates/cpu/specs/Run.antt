@@ -4,20 +4,24 @@ use mathlib.Core.Bool.{_&&_, cond}
 use mathlib.Core.List.{List}
 use Prim.Native.Nat.{ℕ, zero, suc, _+_}
 use Rattle.memory.specs.Chip.{Chip}
-use Rattle.execution.specs.Reply.{Reply, done, inStandby, refused}
-use Rattle.cpu.specs.Answers.{costOf, Run}
-use Rattle.control.specs.Control.{isStandby}
 use Rattle.machine.specs.Ranges.{allInRange, budgetInRange}
-use Rattle.cpu.specs.Step.{stepOf}
 use Rattle.machine.specs.declared.Input.{Input}
 use Rattle.machine.specs.declared.Machine.{Machine}
+use Rattle.cpu.specs.Reply.{Reply, done, inStandby, refused, costOf}
+use Rattle.cpu.specs.Step.{isStanding, stepOf}
+
+-- the steps that a run completed, its refusal or 0, and the record after it
+pub record Run : Type 0 where
+  pub steps : ℕ
+  pub refusal : ℕ
+  pub machine : Machine
 
 abbrev pub ended : ℕ → ℕ → Machine → Run
 ended steps refusal m = record { steps = steps; refusal = refusal; machine = m }
 
 -- a run ends at a refusal, and after a step that leaves the machine standing; else it goes on
 abbrev pub afterStep : ℕ → Machine → Reply → Run → Run
-afterStep steps m done rest = cond (isStandby (m .control)) (ended steps 0 m) rest
+afterStep steps m done rest = cond (isStanding m) (ended steps 0 m) rest
 afterStep steps m inStandby rest = ended steps 0 m
 afterStep steps m (refused n) rest = ended steps n m
 

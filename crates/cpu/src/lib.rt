@@ -1,7 +1,10 @@
 // The single step and the counted run.
+mod execution;
 mod running;
 mod stepping;
 
+ghost use mathlib.Core.Path.{_≡_};
+ghost use Rattle.cpu.specs.Answers.{endOf, replyNumber, replyOf};
 use machine::Machine;
 use machine::Refusal;
 pub use running::run;
@@ -15,9 +18,24 @@ pub enum Answer {
     Refused(Refusal),
 }
 
+impl Answer {
+    // 0 for a completed step, 255 for one that stays in standby, else the refusal.
+    pub fn number(self) -> u8
+        ensures { λ r. ⌜ r ≡ replyNumber (replyOf self) ⌝ }
+    {
+        match self {
+            Answer::Done => 0,
+            Answer::Standby => 255,
+            Answer::Refused(refusal) => refusal.number(),
+        }
+    }
+}
+
+// The machine after steps up to a refusal, standby or the budget; how many of them were completed; and the last one's answer.
 pub struct Stepped {
-    pub answer: Answer,
     pub machine: Machine,
+    pub steps: u32,
+    pub answer: Answer,
 }
 
 // How a run ended.
@@ -27,26 +45,27 @@ pub enum End {
     Refused(Refusal),
 }
 
-pub struct Report {
-    // The steps completed.
-    pub steps: u32,
-    pub end: End,
+impl End {
+    // The refusal, 0 for none.
+    pub fn number(self) -> u8
+        ensures { λ r. ⌜ r ≡ endOf self ⌝ }
+    {
+        match self {
+            End::Completed => 0,
+            End::Refused(refusal) => refusal.number(),
+        }
+    }
 }
 
+// The machine after a run, the steps that it completed, and how it ended.
 pub struct Ran {
-    pub report: Report,
     pub machine: Machine,
+    pub steps: u32,
+    pub end: End,
 }
 
 // What a fetch finds.
 enum Fetched {
     Word(u16),
     Past,
-}
-
-// How far a run went: the steps completed, the last step's answer, and the machine.
-struct Gone {
-    steps: u32,
-    answer: Answer,
-    machine: Machine,
 }

@@ -5,15 +5,15 @@ ghost use mathlib.Core.Bool.{false, _&&_};
 ghost use Prim.Native.Nat.{ℕ};
 ghost use lib.Dec.{eqb};
 ghost use Rattle.memory.specs.Chip.{upd17132};
-ghost use Rattle.control.specs.Control.{marked};
-ghost use Rattle.cpu.specs.Inside.{fetchedOf};
-ghost use Rattle.execution.specs.Inside.{executedOf, inputAt, wholeOf};
-ghost use Rattle.control.specs.Moves.{withStack};
+ghost use Rattle.machine.specs.Parts.{isMarked};
+ghost use Rattle.control.specs.Control.{withStandby};
+ghost use Rattle.cpu.specs.Joined.{executedOf, fetchedOf, inputAt, wholeOf};
+ghost use Rattle.control.specs.Transfers.{withStack};
 ghost use Rattle.cpu.specs.Step.{advanceOf};
 use crate::Fetched;
-use control::Moved;
+use crate::execution::execute;
+use control::Transfer;
 use control::Regs;
-use execution::execute;
 use isa::Decoded;
 use machine::Control;
 use machine::Machine;
@@ -32,10 +32,10 @@ fn fetch(rom: &[u16], pc: u16) -> Fetched
 }
 
 // Whether the machine stays in standby.
-pub fn stays(regs: Regs, release: u8) -> bool
-    ensures { λ r. ⌜ r ≡ (regs .standby && eqb release 0) ⌝ }
+pub fn stays_standing(regs: Regs, release: u8) -> bool
+    ensures { λ r. ⌜ r ≡ (isMarked (regs .standby) && eqb release 0) ⌝ }
 {
-    if regs.standby {
+    if regs.standby != 0 {
         return release == 0;
     }
     false
@@ -43,13 +43,13 @@ pub fn stays(regs: Regs, release: u8) -> bool
 
 // Without the standby mark.
 fn woken(regs: Regs) -> Regs
-    ensures { λ r. ⌜ ((stack : List ℕ) → withStack stack r ≡ marked (regs .skip) false (withStack stack regs)) ⌝ }
+    ensures { λ r. ⌜ ((stack : List ℕ) → withStack stack r ≡ withStandby 0 (withStack stack regs)) ⌝ }
 {
     Regs {
         pc: regs.pc,
         levels: regs.levels,
         skip: regs.skip,
-        standby: false,
+        standby: 0,
     }
 }
 
@@ -61,18 +61,18 @@ pub fn advance(
     regs: Regs,
     pins: &[u8; 5],
     directions: &[u8; 5],
-) -> Moved
-    ensures { λ r. ⌜ ((release : ℕ) → (regs .standby && eqb release 0) ≡ false → executedOf (now (cells .exit)) (now (stack .exit)) regs r ≡ advanceOf upd17132 (now (rom .entry)) (inputAt (now (pins .entry)) (now (directions .entry)) release) (wholeOf (now (cells .entry)) (now (stack .entry)) regs)) ⌝ }
+) -> Transfer
+    ensures { λ r. ⌜ ((release : ℕ) → (isMarked (regs .standby) && eqb release 0) ≡ false → executedOf (now (cells .exit)) (now (stack .exit)) regs r ≡ advanceOf upd17132 (now (rom .entry)) (inputAt (now (pins .entry)) (now (directions .entry)) release) (wholeOf (now (cells .entry)) (now (stack .entry)) regs)) ⌝ }
 {
     let Fetched::Word(word) = fetch(rom, regs.pc) else {
-        return Moved::Refused(Refusal::PastRom);
+        return Transfer::Refused(Refusal::PastRom);
     };
     let awake = woken(regs);
-    if regs.skip {
-        return Moved::To(control::onward(awake, false));
+    if regs.skip != 0 {
+        return Transfer::To(control::onward(awake, false));
     }
     let Decoded::Instruction(instruction) = isa::decode(word) else {
-        return Moved::Refused(Refusal::NoInstruction);
+        return Transfer::Refused(Refusal::NoInstruction);
     };
     execute(rom, instruction, cells, stack, awake, pins, directions)
 }

@@ -14,3 +14,7 @@ byte-bit false = refl
 pub byte-below : (b : Bool) → boolByte b ≤ 1
 byte-below true = lit≤ tt
 byte-below false = lit≤ tt
+
+pub bit-below : (b : Bool) → bit b ≤ 1
+bit-below true = lit≤ tt
+bit-below false = lit≤ tt

@@ -1,2 +1,3 @@
 mod Counted
 mod Split
+pub mod Marks

@@ -7,15 +7,19 @@ ghost use Rattle.memory.specs.Write.{keptOf, writeOf};
 use crate::Memory;
 use crate::masks::mask;
 
-// One cell written, its fixed bits 0; the rest equal. Past 7FH there is no cell.
+// One cell written, its fixed bits 0; the rest equal. Past 7FH there is no cell. It passes over all places, so that the compiler
+// does it in vector registers: a store at a variable place of a copy makes the loads that copy it back wait.
 pub fn write(cells: [u8; 128], at: u8, v: u8) -> [u8; 128]
     ensures { λ r. ⌜ r ≡ writeOf upd17132 cells at v ⌝ }
 {
-    if 128 <= at {
-        return cells;
-    }
+    let kept = v & mask(at);
     let mut next = cells;
-    next[at as usize] = v & mask(at);
+    let mut left = at;
+    for i in 0..128usize {
+        let old = cells[i];
+        next[i] = if left == 0 { kept } else { old };
+        left = std::num::wrapping_sub_u8(left, 1);
+    }
     next
 }
 

@@ -40,23 +40,25 @@ use denote.Triple.Clauses.{ensured, lasts}
 use denote.Triple.Table.{entered, cited}
 use denote.Triple.Walked.{says, Stays, stay-ref, stay-none, stay-none-slice, walkOf, goes-ref, goes-none, goes-none-slice, Walks, ends-at, walked, walk-meets}
 use denote.Exit.{yes}
-use Rattle.records.specs.Records.{runRecordOf}
-use Rattle.records.specs.declared.Record.{Record}
-use Rattle.records.specs.declared.Inputs.{Inputs}
-use Rattle.records.specs.declared.Reported.{Reported}
-use Rattle.records.specs.declared.Report.{Report}
-use Rattle.records.proofs.Record as R
-use Rattle.records.proofs.Record.Laws as R′
-use Rattle.records.proofs.Inputs as I
-use Rattle.records.proofs.Inputs.Laws as I′
-use Rattle.records.proofs.Reported as S
-use Rattle.records.proofs.Reported.Laws as S′
-use Rattle.records.proofs.Report as E
-use Rattle.records.proofs.Report.Laws as E′
-use Rattle.records.proofs.ran as core
-use Rattle.records.proofs.ran.Symbol as core-def
-use Rattle.records.proofs.ran.Symbol.{name as #ran}
-use Rattle.records.proofs.ran.Met as core-thm
+use Rattle.memory.specs.Chip.{upd17132}
+use Rattle.cpu.specs.Run.{runOf}
+use Rattle.pollwezen.specs.Lent.{lentRunOf}
+use Rattle.machine.specs.declared.Machine.{Machine}
+use Rattle.machine.specs.declared.Input.{Input}
+use Rattle.pollwezen.specs.declared.LentRun.{LentRun}
+use Rattle.pollwezen.specs.declared.RunReply.{RunReply}
+use Rattle.machine.proofs.Machine as R
+use Rattle.machine.proofs.Machine.Laws as R′
+use Rattle.machine.proofs.Input as I
+use Rattle.machine.proofs.Input.Laws as I′
+use Rattle.pollwezen.proofs.LentRun as S
+use Rattle.pollwezen.proofs.LentRun.Laws as S′
+use Rattle.pollwezen.proofs.RunReply as E
+use Rattle.pollwezen.proofs.RunReply.Laws as E′
+use Rattle.pollwezen.proofs.calls.lent_run as core
+use Rattle.pollwezen.proofs.calls.lent_run.Symbol as core-def
+use Rattle.pollwezen.proofs.calls.lent_run.Symbol.{name as #lent-run}
+use Rattle.pollwezen.proofs.calls.lent_run.Met as core-thm
 use Rattle.pollwezen.proofs.pollwezen_run.Key.{name as #pollwezen-run}
 use Rattle.pollwezen.proofs.pollwezen_run as pr
 use Rattle.pollwezen.proofs.pollwezen_run.Statement as stated
@@ -66,30 +68,30 @@ abbrev stayed : Stays (pr.ended .signature .params) (pr.ended .kept)
 stayed = (stay-none-slice (0 ∷ []) tt (plain (λ _. u16)) yes, (stay-ref (1 ∷ []) tt (plain (λ _. R.the-row)), (stay-none (λ _. I.the-row) yes, (stay-none (λ _. u32) yes, tt))))
 
 -- the machine value of a record, of an input, of a budget and of a report
-abbrev rv : Record → Val
+abbrev rv : Machine → Val
 rv = LL.val R.the-type R′.the-laws
 
-abbrev iv : Inputs → Val
+abbrev iv : Input → Val
 iv = LL.val I.the-type I′.the-laws
 
 abbrev nv : ℕ → Val
 nv = vint w32
 
-abbrev ev : Report → Val
+abbrev ev : RunReply → Val
 ev = LL.val E.the-type E′.the-laws
 
 -- what whoever holds a result knows of its two fields
-report-is : (r : Reported) (vs : List Val) → Is S.the-row r vs → Is E.the-row (r .report) (ev (r .report) ∷ [])
-report-is r vs is = LL.owed S.the-type S′.the-laws r vs is .0
+report-is : (r : LentRun) (vs : List Val) → Is S.the-row r vs → Is E.the-row (r .reply) (ev (r .reply) ∷ [])
+report-is r vs is = LL.owed S.the-type S′.the-laws r vs is .1 .0
 
-left-is : (r : Reported) (vs : List Val) → Is S.the-row r vs → Is R.the-row (r .left) (rv (r .left) ∷ [])
-left-is r vs is = LL.owed S.the-type S′.the-laws r vs is .1 .0
+left-is : (r : LentRun) (vs : List Val) → Is S.the-row r vs → Is R.the-row (r .machine) (rv (r .machine) ∷ [])
+left-is r vs is = LL.owed S.the-type S′.the-laws r vs is .0
 
 -- the contract that the proof cites
 abbrev RunC : {M : Type 1} (𝓤 : URA M) (H : Heap 𝓤) (A : Atoms 𝓤) (mem : Memory → SProp 𝓤) (run : Routine → Fun 𝓤) → Contract 𝓤
 RunC 𝓤 H A mem run = tripleOf 𝓤 H A core.signature (core.spec 𝓤 H A mem run)
 
-module _ {M : Type 1} (𝓤 : URA M) (H : Heap 𝓤) (A : Atoms 𝓤) (W : Given 𝓤 H A) (at-mem : Memory → SProp 𝓤) (run : Routine → Fun 𝓤) (κ κ′ : Lft) (q q′ : Share) (s : RefT (List ℕ)) (b o : ℕ) (γ : GName) (h : Record) (i : Inputs) (n : ℕ) (i-is : Is I.the-row i (iv i ∷ [])) (n-is : Is u32 n (nv n ∷ [])) where
+module _ {M : Type 1} (𝓤 : URA M) (H : Heap 𝓤) (A : Atoms 𝓤) (W : Given 𝓤 H A) (at-mem : Memory → SProp 𝓤) (run : Routine → Fun 𝓤) (κ κ′ : Lft) (q q′ : Share) (s : RefT (List ℕ)) (b o : ℕ) (γ : GName) (h : Machine) (i : Input) (n : ℕ) (i-is : Is I.the-row i (iv i ∷ [])) (n-is : Is u32 n (nv n ∷ [])) where
   -- the slice's machine value, and what it owns
   abbrev v : Val
   v = sliceVal (s .ptr) (length (s .now))
@@ -97,7 +99,7 @@ module _ {M : Type 1} (𝓤 : URA M) (H : Heap 𝓤) (A : Atoms 𝓤) (W : Given
   abbrev Own : Fml
   Own = ShrSlice (named 0) κ u16 .own s (v ∷ [])
 
-  abbrev a : RefT (List ℕ) × (RefT Record × (Inputs × (ℕ × Unit {0})))
+  abbrev a : RefT (List ℕ) × (RefT Machine × (Input × (ℕ × Unit {0})))
   a = (s, (record { ptr = (b, o); name = γ; now = h }, (i, (n, tt))))
 
   abbrev vals : List Val × (List Val × (List Val × (List Val × Unit {0})))
@@ -106,7 +108,7 @@ module _ {M : Type 1} (𝓤 : URA M) (H : Heap 𝓤) (A : Atoms 𝓤) (W : Given
   abbrev Post : Val → SProp 𝓤
   Post = walkOf 𝓤 H A pr.ended stayed (pr.clauses 𝓤 H A at-mem run) .post (((κ, (κ′, tt)), (q, (q′, tt)), tt, a, vals), tt)
 
-  -- what `ran` is passed, and what it asks
+  -- what `lent_run` is passed, and what it asks
   abbrev to : RunC 𝓤 H A at-mem run .Ghost
   to = (((κ, tt), (q, tt), tt, (s, (h, (i, (n, tt)))), (v ∷ [], (rv h ∷ [], (iv i ∷ [], (nv n ∷ [], tt))))), tt)
 
@@ -116,24 +118,24 @@ module _ {M : Type 1} (𝓤 : URA M) (H : Heap 𝓤) (A : Atoms 𝓤) (W : Given
       nothing ! $ owned ! u32 (Is u32) (uint-makes 𝓤 H A W w32) n _ n-is $ fjoin ! $ owned ! I.the-row (Is I.the-row) (LL.makes I.the-type I′.the-plain 𝓤 H A) i _ i-is $ fjoin ! $ owned ! R.the-row (Is R.the-row) (LL.makes R.the-type R′.the-plain 𝓤 H A) h _ h-is $ fjoin ! $ move ! (2 ∷ 0 ∷ []) $ fjoin ! $
       nothing ! $ move ! (2 ∷ 0 ∷ []) $ join ! $ join ! $ frame ! $ done !
 
-  -- of what `ran` ensures, the clause alone: it has no `&mut`, so what is said of last values is dropped
-  said : (r : Reported) → ent 𝓤 (ensured 𝓤 H A core.ended (core.clauses 𝓤 H A at-mem run) (κ, tt) (s, (h, (i, (n, tt)))) tt r) (fact 𝓤 (r ≡ runRecordOf (now s) i n h))
-  said r = exE 𝓤 _ (λ ws. snd∗ 𝓤 (sem 𝓤 H A (lasts core.ended (κ, tt) (s, (h, (i, (n, tt)))) ws)) (fact 𝓤 (r ≡ runRecordOf (now s) i n h)))
+  -- of what `lent_run` ensures, the clause alone: it has no `&mut`, so what is said of last values is dropped
+  said : (r : LentRun) → ent 𝓤 (ensured 𝓤 H A core.ended (core.clauses 𝓤 H A at-mem run) (κ, tt) (s, (h, (i, (n, tt)))) tt r) (fact 𝓤 (r ≡ lentRunOf (runOf upd17132 (now s) i n h)))
+  said r = exE 𝓤 _ (λ ws. snd∗ 𝓤 (sem 𝓤 H A (lasts core.ended (κ, tt) (s, (h, (i, (n, tt)))) ws)) (fact 𝓤 (r ≡ lentRunOf (runOf upd17132 (now s) i n h))))
 
-  exits : (r : Reported) (vs : List Val) → Is S.the-row r vs → r ≡ runRecordOf (now s) i n h
-      → ent 𝓤 (⋆ 𝓤 H A (‵ (fobs γ (R.the-row .coded .code (r .left))) ∷ ‵ (fbor κ′ (Body (mem R.the-row) b o γ)) ∷ ‵ (flft κ′ q′) ∷ (‵ (flft κ q) ⊛ ‵ ftrue) ∷ ‵ Own ∷ [])) (Post (ev (r .report)))
+  exits : (r : LentRun) (vs : List Val) → Is S.the-row r vs → r ≡ lentRunOf (runOf upd17132 (now s) i n h)
+      → ent 𝓤 (⋆ 𝓤 H A (‵ (fobs γ (R.the-row .coded .code (r .machine))) ∷ ‵ (fbor κ′ (Body (mem R.the-row) b o γ)) ∷ ‵ (flft κ′ q′) ∷ (‵ (flft κ q) ⊛ ‵ ftrue) ∷ ‵ Own ∷ [])) (Post (ev (r .reply)))
   exits r vs is e =
-      qed W (‵ (fobs γ (R.the-row .coded .code (r .left))) ∷ ‵ (fbor κ′ (Body (mem R.the-row) b o γ)) ∷ ‵ (flft κ′ q′) ∷ (‵ (flft κ q) ⊛ ‵ ftrue) ∷ ‵ Own ∷ []) ∵
-      suffices ! _ (ends-at 𝓤 H A pr.ended stayed (pr.clauses 𝓤 H A at-mem run) W (((κ, (κ′, tt)), (q, (q′, tt)), tt, a, vals), tt) (ev (r .report)) (r .report) (tt, (r .left, (tt, (tt, tt)))) (tt, (tt, (tt, (tt, tt))))) $
+      qed W (‵ (fobs γ (R.the-row .coded .code (r .machine))) ∷ ‵ (fbor κ′ (Body (mem R.the-row) b o γ)) ∷ ‵ (flft κ′ q′) ∷ (‵ (flft κ q) ⊛ ‵ ftrue) ∷ ‵ Own ∷ []) ∵
+      suffices ! _ (ends-at 𝓤 H A pr.ended stayed (pr.clauses 𝓤 H A at-mem run) W (((κ, (κ′, tt)), (q, (q′, tt)), tt, a, vals), tt) (ev (r .reply)) (r .reply) (tt, (r .machine, (tt, (tt, tt)))) (tt, (tt, (tt, (tt, tt))))) $
       says ! e $
       -- the tokens
       move ! (3 ∷ []) $ split ! $ move ! (4 ∷ 1 ∷ []) $ join ! $ move ! (1 ∷ 0 ∷ []) $ join ! $ frame ! $
       -- what is had of the parameters
       feqI ! (List Val) (vptr b o ∷ []) (vptr b o ∷ []) refl $ fjoin3 ! $ nothing ! $ owned ! u32 (Is u32) (uint-makes 𝓤 H A W w32) n _ n-is $ fjoin ! $ owned ! I.the-row (Is I.the-row) (LL.makes I.the-type I′.the-plain 𝓤 H A) i _ i-is $ fjoin ! $ move ! (1 ∷ 0 ∷ []) $ fjoin ! $ move ! (1 ∷ 0 ∷ []) $ fjoin ! $ frame ! $
       -- the report
-      owned ! E.the-row (Is E.the-row) (LL.makes E.the-type E′.the-plain 𝓤 H A) (r .report) _ (report-is r vs is) $ done !
+      owned ! E.the-row (Is E.the-row) (LL.makes E.the-type E′.the-plain 𝓤 H A) (r .reply) _ (report-is r vs is) $ done !
 
-  module _ (C : Calls 𝓤 H) (Λ : Loops 𝓤 H) (fm : FmC 𝓤 H (W .laws) C) (known : Triple 𝓤 (C #ran) (RunC 𝓤 H A at-mem run)) where
+  module _ (C : Calls 𝓤 H) (Λ : Loops 𝓤 H) (fm : FmC 𝓤 H (W .laws) C) (known : Triple 𝓤 (C #lent-run) (RunC 𝓤 H A at-mem run)) where
     walk : Is (ShrSlice (named 0) κ u16) s (v ∷ []) → ent 𝓤 (onEntry 𝓤 H A pr.signature (κ, (κ′, tt)) (q, (q′, tt)) a vals) (WpFn 𝓤 H C Λ code.function (v ∷ vptr b o ∷ iv i ∷ nv n ∷ []) Post)
     walk s-is =
         qed W ((‵ (flft κ q) ⊛ ‵ (flft κ′ q′) ⊛ ‵ ftrue) ∷ ‵ (owns (ShrSlice (named 0) κ u16 ∷ MutRef (named 1) κ′ R.the-row ∷ I.the-row ∷ u32 ∷ []) a vals) ∷ []) ∵
@@ -151,26 +153,26 @@ module _ {M : Type 1} (𝓤 : URA M) (H : Heap 𝓤) (A : Atoms 𝓤) (W : Given
         move ! (19 ∷ []) $ use1 W (‵ Own ⊛ ‵ Own) (shr-slice-copy 𝓤 H A W (named 0) κ u16 .twice s (v ∷ [])) $ split ! $ move ! (21 ∷ 0 ∷ []) $ use2 W (raw (RunC 𝓤 H A at-mem run .pre to)) (goes h-is) $
         -- [what ran asks; the slice's; the cell; what the record owns; the open borrow; obs; auth; _6; …]
         calls-at ! fm (RunC 𝓤 H A at-mem run) known to (and-then ! (load ! (from ! (stop !)) (look ! 17 refl)) (and-then ! (load ! (from ! (stop !)) (look ! 7 refl)) (and-then ! (load ! (from ! (stop !)) (look ! 13 refl)) (and-then ! (load ! (from ! (stop !)) (look ! 11 refl)) (no-more !))))) (λ w.
-        use1 W (later (some (λ (r : Reported). ((‵ (flft κ q) ⊛ ‵ ftrue) ⊛ ‵ (S.the-row .own r (w ∷ []))) ⊛ raw (ensured 𝓤 H A core.ended (core.clauses 𝓤 H A at-mem run) (κ, tt) (s, (h, (i, (n, tt)))) tt r)))) (id⊢ 𝓤 _) $ await ! tt $ pick ! (λ r.
-        split ! $ move ! (1 ∷ []) $ use1 W (raw (fact 𝓤 (r ≡ runRecordOf (now s) i n h))) (said r) $ heard ! (r ≡ runRecordOf (now s) i n h) (λ e. split ! $ move ! (1 ∷ []) $ facts ! S.the-row (Is S.the-row) (shows 𝓤 H A S.the-row) r (w ∷ []) (λ is.
+        use1 W (later (some (λ (r : LentRun). ((‵ (flft κ q) ⊛ ‵ ftrue) ⊛ ‵ (S.the-row .own r (w ∷ []))) ⊛ raw (ensured 𝓤 H A core.ended (core.clauses 𝓤 H A at-mem run) (κ, tt) (s, (h, (i, (n, tt)))) tt r)))) (id⊢ 𝓤 _) $ await ! tt $ pick ! (λ r.
+        split ! $ move ! (1 ∷ []) $ use1 W (raw (fact 𝓤 (r ≡ lentRunOf (runOf upd17132 (now s) i n h)))) (said r) $ heard ! (r ≡ lentRunOf (runOf upd17132 (now s) i n h)) (λ e. split ! $ move ! (1 ∷ []) $ facts ! S.the-row (Is S.the-row) (shows 𝓤 H A S.the-row) r (w ∷ []) (λ is.
         -- [κ's token; the slice's; the cell; what the record owned; the open borrow; obs; auth; _6; …; _5; …; _4; …; _3; …; _2; …; _1; …; _0; …]
         land ! (from ! (stop !)) (init ! 9 refl (LL.lawful S.the-type S′.the-laws 𝓤 H A W .typed r _ is .0)) $ rewrite ! 9 (λ (u : Val). ‵ (fat fullShare S′.mir l₅ 0 u)) (ap only (LL.tells S.the-type S′.the-laws r (w ∷ []) is)) refl $
-        assigns ! (of-opd ! (load ! (from ! (fld ! refl (stop !))) (look-in ! 9 (sub ! 1 refl (whole !))))) (from ! (hop ! (look ! 15 refl) (stop !))) (store-raw ! 2 refl (LL.lawful R.the-type R′.the-laws 𝓤 H A W .typed (r .left) _ (left-is r _ is) .0)) $
-        assigns ! (of-opd ! (load ! (from ! (fld ! refl (stop !))) (look-in ! 9 (sub ! 0 refl (whole !))))) (from ! (stop !)) (init ! 19 refl (LL.lawful E.the-type E′.the-laws 𝓤 H A W .typed (r .report) _ (report-is r _ is) .0)) $
+        assigns ! (of-opd ! (load ! (from ! (fld ! refl (stop !))) (look-in ! 9 (sub ! 0 refl (whole !))))) (from ! (hop ! (look ! 15 refl) (stop !))) (store-raw ! 2 refl (LL.lawful R.the-type R′.the-laws 𝓤 H A W .typed (r .machine) _ (left-is r _ is) .0)) $
+        assigns ! (of-opd ! (load ! (from ! (fld ! refl (stop !))) (look-in ! 9 (sub ! 1 refl (whole !))))) (from ! (stop !)) (init ! 19 refl (LL.lawful E.the-type E′.the-laws 𝓤 H A W .typed (r .reply) _ (report-is r _ is) .0)) $
         -- the borrow is closed at the new record
-        move ! (3 ∷ []) $ drop ! $ owned ! R.the-row (Is R.the-row) (LL.makes R.the-type R′.the-plain 𝓤 H A) (r .left) _ (left-is r _ is) $ move ! (3 ∷ 0 ∷ 4 ∷ 5 ∷ 6 ∷ []) $ closes ! tt R.the-row (r .left) (rv (r .left) ∷ []) b o $
+        move ! (3 ∷ []) $ drop ! $ owned ! R.the-row (Is R.the-row) (LL.makes R.the-type R′.the-plain 𝓤 H A) (r .machine) _ (left-is r _ is) $ move ! (3 ∷ 0 ∷ 4 ∷ 5 ∷ 6 ∷ []) $ closes ! tt R.the-row (r .machine) (rv (r .machine) ∷ []) b o $
         -- [obs; the borrow; κ′'s token; κ's token; the slice's; _6; …; _5; …; _4; …; _3; …; _2; …; _1; …; _0; …]
         returns ! (look ! 17 refl) $ forget ! 5 refl $ forget ! 7 refl $ forget ! 9 refl $ forget ! 11 refl $ forget ! 13 refl $ forget ! 15 refl $ forget ! 17 refl $
         move ! (17 ∷ 18 ∷ []) $ free1 ! $ move ! (15 ∷ 16 ∷ []) $ free1 ! $ move ! (13 ∷ 14 ∷ []) $ free1 ! $ move ! (11 ∷ 12 ∷ []) $ free1 ! $ move ! (9 ∷ 10 ∷ []) $ free1 ! $ move ! (7 ∷ 8 ∷ []) $ free1 ! $ move ! (5 ∷ 6 ∷ []) $ free1 ! $ free0 ! $
         keep ! (0 ∷ 1 ∷ 2 ∷ 3 ∷ 4 ∷ []) $ by ! (exits r (w ∷ []) is e))))))))))))))
 
 module _ {M : Type 1} (𝓤 : URA M) (H : Heap 𝓤) (A : Atoms 𝓤) (W : Given 𝓤 H A) (at-mem : Memory → SProp 𝓤) (run : Routine → Fun 𝓤) where
-  pr-walks : (C : Calls 𝓤 H) (Λ : Loops 𝓤 H) → FmC 𝓤 H (W .laws) C → Triple 𝓤 (C #ran) (RunC 𝓤 H A at-mem run) → Walks 𝓤 H A pr.ended stayed (WpFn 𝓤 H C Λ code.function) (pr.clauses 𝓤 H A at-mem run)
+  pr-walks : (C : Calls 𝓤 H) (Λ : Loops 𝓤 H) → FmC 𝓤 H (W .laws) C → Triple 𝓤 (C #lent-run) (RunC 𝓤 H A at-mem run) → Walks 𝓤 H A pr.ended stayed (WpFn 𝓤 H C Λ code.function) (pr.clauses 𝓤 H A at-mem run)
   pr-walks C Λ fm known = walked 𝓤 H A pr.ended stayed (pr.clauses 𝓤 H A at-mem run) (WpFn 𝓤 H C Λ code.function)
       (λ κs. (slice-vals, (ptr-vals, (LL.vals I.the-type I′.the-laws, (uint-vals w32, tt))))) (λ κs. (shr-slice-tells (named 0) (κs .0) u16, (mut-tells (named 1) (κs .1 .0) R.the-row, (LL.tells I.the-type I′.the-laws, (uint-tells w32, tt)))))
       (λ κs qs bounds a _ are. via 𝓤 _ (fst∗ 𝓤 _ (emp 𝓤)) (walk 𝓤 H A W at-mem run (κs .0) (κs .1 .0) (qs .0) (qs .1 .0) (a .0) (a .1 .0 .ptr .0) (a .1 .0 .ptr .1) (a .1 .0 .name) (a .1 .0 .now) (a .1 .1 .0) (a .1 .1 .1 .0) (are .1 .1 .0) (are .1 .1 .1 .0) C Λ fm known (are .0)))
 
-pr-meets : {M : Type 1} (𝓤 : URA M) (H : Heap 𝓤) (A : Atoms 𝓤) → Given 𝓤 H A → (at-mem : Memory → SProp 𝓤) (run : Routine → Fun 𝓤) (𝓣 : Tables 𝓤 H) → Triple 𝓤 (𝓣 .C #ran) (RunC 𝓤 H A at-mem run)
+pr-meets : {M : Type 1} (𝓤 : URA M) (H : Heap 𝓤) (A : Atoms 𝓤) → Given 𝓤 H A → (at-mem : Memory → SProp 𝓤) (run : Routine → Fun 𝓤) (𝓣 : Tables 𝓤 H) → Triple 𝓤 (𝓣 .C #lent-run) (RunC 𝓤 H A at-mem run)
     → Meets 𝓤 H A pr.signature (WpFn 𝓤 H (𝓣 .C) (𝓣 .Λ) code.function) (pr.spec 𝓤 H A at-mem run)
 pr-meets 𝓤 H A W at-mem run 𝓣 known =
     walk-meets 𝓤 H A pr.ended stayed W (goes-none-slice 𝓤 H A W 2 (0 ∷ []) tt (plain (λ _. u16)) yes, (goes-ref 𝓤 H A W 2 1 tt (plain (λ _. R.the-row)), (goes-none 𝓤 H A W 2 (λ _. I.the-row) yes (λ κs x f. refl), (goes-none 𝓤 H A W 2 (λ _. u32) yes (λ κs x f. refl), tt)))) (pr.clauses 𝓤 H A at-mem run)
@@ -182,4 +184,4 @@ pollwezen-run-spec 𝓤 H 𝓜 𝓖 𝓡 =
     entered 𝓤 H (tripleOf 𝓤 H (𝓖 .A) pr.signature (pr.spec 𝓤 H (𝓖 .A) (𝓜 .mem) (𝓡 .run)))
     (tables 𝓤 H 𝓜 𝓡 code.env .C) (tables 𝓤 H 𝓜 𝓡 code.env .Λ) #pollwezen-run code.function (code.unfolded 𝓤 H 𝓜 𝓡)
     (pr-meets 𝓤 H (𝓖 .A) (givenOf 𝓤 H 𝓜 𝓖) (𝓜 .mem) (𝓡 .run) (tablesOf 𝓤 H 𝓜 (tables 𝓤 H 𝓜 𝓡 code.env))
-    (cited 𝓤 H (RunC 𝓤 H (𝓖 .A) (𝓜 .mem) (𝓡 .run)) 𝓜 𝓡 code.env #ran core-def.routine code.calls-records·ran (core-thm.met 𝓤 H 𝓜 𝓖 𝓡)))
+    (cited 𝓤 H (RunC 𝓤 H (𝓖 .A) (𝓜 .mem) (𝓡 .run)) 𝓜 𝓡 code.env #lent-run core-def.routine code.calls-pollwezen·calls·lent-run (core-thm.met 𝓤 H 𝓜 𝓖 𝓡)))

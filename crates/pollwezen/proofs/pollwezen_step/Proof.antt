@@ -1,6 +1,6 @@
--- `pollwezen_step` meets its contract: a walk of its MIR, by hand. The borrow is opened, the record is copied out, `stepped`
+-- `pollwezen_step` meets its contract: a walk of its MIR, by hand. The borrow is opened, the record is copied out, `lent_step`
 -- is called on the copy, its record is stored over the old one, and the borrow is closed at the new record.
--- All that the proof knows of `stepped` is that it meets its contract. No line depends on the fields of the record.
+-- All that the proof knows of `lent_step` is that it meets its contract. No line depends on the fields of the record.
 -- Assumes nothing.
 use mathlib.Core.Path.{_≡_, refl, ap}
 use Prim.Native.Nat.{ℕ}
@@ -42,21 +42,23 @@ use denote.Triple.Clauses.{ensured, lasts}
 use denote.Triple.Table.{entered, cited}
 use denote.Triple.Walked.{says, Stays, stay-ref, stay-none, stay-none-slice, walkOf, goes-ref, goes-none, goes-none-slice, Walks, ends-at, walked, walk-meets}
 use denote.Exit.{yes}
-use Rattle.records.specs.Records.{stepRecordOf}
-use Rattle.records.specs.declared.Record.{Record}
-use Rattle.records.specs.declared.Inputs.{Inputs}
-use Rattle.records.specs.declared.Numbered.{Numbered}
-use Rattle.records.proofs.Record as R
-use Rattle.records.proofs.Record.Laws as R′
-use Rattle.records.proofs.Inputs as I
-use Rattle.records.proofs.Inputs.Laws as I′
-use Rattle.records.proofs.Numbered as S
-use Rattle.records.proofs.Numbered.Laws as S′
-use Rattle.records.proofs.Lent.{kept}
-use Rattle.records.proofs.stepped as step
-use Rattle.records.proofs.stepped.Symbol as step-def
-use Rattle.records.proofs.stepped.Symbol.{name as #stepped}
-use Rattle.records.proofs.stepped.Met as step-thm
+use Rattle.memory.specs.Chip.{upd17132}
+use Rattle.cpu.specs.Step.{stepOf}
+use Rattle.pollwezen.specs.Lent.{lentStepOf}
+use Rattle.machine.specs.declared.Machine.{Machine}
+use Rattle.machine.specs.declared.Input.{Input}
+use Rattle.pollwezen.specs.declared.LentStep.{LentStep}
+use Rattle.machine.proofs.Machine as R
+use Rattle.machine.proofs.Machine.Laws as R′
+use Rattle.machine.proofs.Input as I
+use Rattle.machine.proofs.Input.Laws as I′
+use Rattle.pollwezen.proofs.LentStep as S
+use Rattle.pollwezen.proofs.LentStep.Laws as S′
+use Rattle.pollwezen.proofs.Kept.{kept}
+use Rattle.pollwezen.proofs.calls.lent_step as step
+use Rattle.pollwezen.proofs.calls.lent_step.Symbol as step-def
+use Rattle.pollwezen.proofs.calls.lent_step.Symbol.{name as #lent-step}
+use Rattle.pollwezen.proofs.calls.lent_step.Met as step-thm
 use Rattle.pollwezen.proofs.pollwezen_step.Key.{name as #pollwezen-step}
 use Rattle.pollwezen.proofs.pollwezen_step as ms
 use Rattle.pollwezen.proofs.pollwezen_step.Statement as stated
@@ -66,27 +68,27 @@ abbrev stayed : Stays (ms.ended .signature .params) (ms.ended .kept)
 stayed = (stay-none-slice (0 ∷ []) tt (plain (λ _. u16)) yes, (stay-ref (1 ∷ []) tt (plain (λ _. R.the-row)), (stay-none (λ _. I.the-row) yes, tt)))
 
 -- the machine value of a record, of an input and of a number
-abbrev rv : Record → Val
+abbrev rv : Machine → Val
 rv = LL.val R.the-type R′.the-laws
 
-abbrev iv : Inputs → Val
+abbrev iv : Input → Val
 iv = LL.val I.the-type I′.the-laws
 
 abbrev ev : ℕ → Val
 ev = vint w8
 
 -- what whoever holds a result knows of its two fields
-number-is : (r : Numbered) (vs : List Val) → Is S.the-row r vs → Is u8 (r .number) (ev (r .number) ∷ [])
-number-is r vs is = LL.owed S.the-type S′.the-laws r vs is .0
+number-is : (r : LentStep) (vs : List Val) → Is S.the-row r vs → Is u8 (r .number) (ev (r .number) ∷ [])
+number-is r vs is = LL.owed S.the-type S′.the-laws r vs is .1 .0
 
-left-is : (r : Numbered) (vs : List Val) → Is S.the-row r vs → Is R.the-row (r .left) (rv (r .left) ∷ [])
-left-is r vs is = LL.owed S.the-type S′.the-laws r vs is .1 .0
+left-is : (r : LentStep) (vs : List Val) → Is S.the-row r vs → Is R.the-row (r .machine) (rv (r .machine) ∷ [])
+left-is r vs is = LL.owed S.the-type S′.the-laws r vs is .0
 
 -- the contract that the proof cites
 abbrev StepC : {M : Type 1} (𝓤 : URA M) (H : Heap 𝓤) (A : Atoms 𝓤) (mem : Memory → SProp 𝓤) (run : Routine → Fun 𝓤) → Contract 𝓤
 StepC 𝓤 H A mem run = tripleOf 𝓤 H A step.signature (step.spec 𝓤 H A mem run)
 
-module _ {M : Type 1} (𝓤 : URA M) (H : Heap 𝓤) (A : Atoms 𝓤) (W : Given 𝓤 H A) (at-mem : Memory → SProp 𝓤) (run : Routine → Fun 𝓤) (κ κ′ : Lft) (q q′ : Share) (s : RefT (List ℕ)) (b o : ℕ) (γ : GName) (h : Record) (i : Inputs) (i-is : Is I.the-row i (iv i ∷ [])) where
+module _ {M : Type 1} (𝓤 : URA M) (H : Heap 𝓤) (A : Atoms 𝓤) (W : Given 𝓤 H A) (at-mem : Memory → SProp 𝓤) (run : Routine → Fun 𝓤) (κ κ′ : Lft) (q q′ : Share) (s : RefT (List ℕ)) (b o : ℕ) (γ : GName) (h : Machine) (i : Input) (i-is : Is I.the-row i (iv i ∷ [])) where
   -- the slice's machine value, and what it owns
   abbrev v : Val
   v = sliceVal (s .ptr) (length (s .now))
@@ -94,7 +96,7 @@ module _ {M : Type 1} (𝓤 : URA M) (H : Heap 𝓤) (A : Atoms 𝓤) (W : Given
   abbrev Own : Fml
   Own = ShrSlice (named 0) κ u16 .own s (v ∷ [])
 
-  abbrev a : RefT (List ℕ) × (RefT Record × (Inputs × Unit {0}))
+  abbrev a : RefT (List ℕ) × (RefT Machine × (Input × Unit {0}))
   a = (s, (record { ptr = (b, o); name = γ; now = h }, (i, tt)))
 
   abbrev vals : List Val × (List Val × (List Val × Unit {0}))
@@ -103,7 +105,7 @@ module _ {M : Type 1} (𝓤 : URA M) (H : Heap 𝓤) (A : Atoms 𝓤) (W : Given
   abbrev Post : Val → SProp 𝓤
   Post = walkOf 𝓤 H A ms.ended stayed (ms.clauses 𝓤 H A at-mem run) .post (((κ, (κ′, tt)), (q, (q′, tt)), tt, a, vals), tt)
 
-  -- what `stepped` is passed, and what it asks
+  -- what `lent_step` is passed, and what it asks
   abbrev to : StepC 𝓤 H A at-mem run .Ghost
   to = (((κ, tt), (q, tt), tt, (s, (h, (i, tt))), (v ∷ [], (rv h ∷ [], (iv i ∷ [], tt)))), tt)
 
@@ -113,15 +115,15 @@ module _ {M : Type 1} (𝓤 : URA M) (H : Heap 𝓤) (A : Atoms 𝓤) (W : Given
       nothing ! $ owned ! I.the-row (Is I.the-row) (LL.makes I.the-type I′.the-plain 𝓤 H A) i _ i-is $ fjoin ! $ owned ! R.the-row (Is R.the-row) (LL.makes R.the-type R′.the-plain 𝓤 H A) h _ h-is $ fjoin ! $ move ! (2 ∷ 0 ∷ []) $ fjoin ! $
       nothing ! $ move ! (2 ∷ 0 ∷ []) $ join ! $ join ! $ frame ! $ done !
 
-  -- of what `stepped` ensures, the clause alone: it has no `&mut`, so what is said of last values is dropped
-  said : (r : Numbered) → ent 𝓤 (ensured 𝓤 H A step.ended (step.clauses 𝓤 H A at-mem run) (κ, tt) (s, (h, (i, tt))) tt r) (fact 𝓤 (r ≡ stepRecordOf (now s) i h))
-  said r = exE 𝓤 _ (λ ws. snd∗ 𝓤 (sem 𝓤 H A (lasts step.ended (κ, tt) (s, (h, (i, tt))) ws)) (fact 𝓤 (r ≡ stepRecordOf (now s) i h)))
+  -- of what `lent_step` ensures, the clause alone: it has no `&mut`, so what is said of last values is dropped
+  said : (r : LentStep) → ent 𝓤 (ensured 𝓤 H A step.ended (step.clauses 𝓤 H A at-mem run) (κ, tt) (s, (h, (i, tt))) tt r) (fact 𝓤 (r ≡ lentStepOf (stepOf upd17132 (now s) i h)))
+  said r = exE 𝓤 _ (λ ws. snd∗ 𝓤 (sem 𝓤 H A (lasts step.ended (κ, tt) (s, (h, (i, tt))) ws)) (fact 𝓤 (r ≡ lentStepOf (stepOf upd17132 (now s) i h))))
 
-  exits : (r : Numbered) (vs : List Val) → Is S.the-row r vs → r ≡ stepRecordOf (now s) i h
-      → ent 𝓤 (⋆ 𝓤 H A (‵ (fobs γ (R.the-row .coded .code (r .left))) ∷ ‵ (fbor κ′ (Body (mem R.the-row) b o γ)) ∷ ‵ (flft κ′ q′) ∷ (‵ (flft κ q) ⊛ ‵ ftrue) ∷ ‵ Own ∷ [])) (Post (ev (r .number)))
+  exits : (r : LentStep) (vs : List Val) → Is S.the-row r vs → r ≡ lentStepOf (stepOf upd17132 (now s) i h)
+      → ent 𝓤 (⋆ 𝓤 H A (‵ (fobs γ (R.the-row .coded .code (r .machine))) ∷ ‵ (fbor κ′ (Body (mem R.the-row) b o γ)) ∷ ‵ (flft κ′ q′) ∷ (‵ (flft κ q) ⊛ ‵ ftrue) ∷ ‵ Own ∷ [])) (Post (ev (r .number)))
   exits r vs is e =
-      qed W (‵ (fobs γ (R.the-row .coded .code (r .left))) ∷ ‵ (fbor κ′ (Body (mem R.the-row) b o γ)) ∷ ‵ (flft κ′ q′) ∷ (‵ (flft κ q) ⊛ ‵ ftrue) ∷ ‵ Own ∷ []) ∵
-      suffices ! _ (ends-at 𝓤 H A ms.ended stayed (ms.clauses 𝓤 H A at-mem run) W (((κ, (κ′, tt)), (q, (q′, tt)), tt, a, vals), tt) (ev (r .number)) (r .number) (tt, (r .left, (tt, tt))) (tt, (tt, (tt, tt)))) $
+      qed W (‵ (fobs γ (R.the-row .coded .code (r .machine))) ∷ ‵ (fbor κ′ (Body (mem R.the-row) b o γ)) ∷ ‵ (flft κ′ q′) ∷ (‵ (flft κ q) ⊛ ‵ ftrue) ∷ ‵ Own ∷ []) ∵
+      suffices ! _ (ends-at 𝓤 H A ms.ended stayed (ms.clauses 𝓤 H A at-mem run) W (((κ, (κ′, tt)), (q, (q′, tt)), tt, a, vals), tt) (ev (r .number)) (r .number) (tt, (r .machine, (tt, tt))) (tt, (tt, (tt, tt)))) $
       says ! (e, kept (now s) i h r e) $
       -- the tokens
       move ! (3 ∷ []) $ split ! $ move ! (4 ∷ 1 ∷ []) $ join ! $ move ! (1 ∷ 0 ∷ []) $ join ! $ frame ! $
@@ -130,7 +132,7 @@ module _ {M : Type 1} (𝓤 : URA M) (H : Heap 𝓤) (A : Atoms 𝓤) (W : Given
       -- the answer
       owned ! u8 (Is u8) (uint-makes 𝓤 H A W w8) (r .number) _ (number-is r vs is) $ done !
 
-  module _ (C : Calls 𝓤 H) (Λ : Loops 𝓤 H) (fm : FmC 𝓤 H (W .laws) C) (known : Triple 𝓤 (C #stepped) (StepC 𝓤 H A at-mem run)) where
+  module _ (C : Calls 𝓤 H) (Λ : Loops 𝓤 H) (fm : FmC 𝓤 H (W .laws) C) (known : Triple 𝓤 (C #lent-step) (StepC 𝓤 H A at-mem run)) where
     walk : Is (ShrSlice (named 0) κ u16) s (v ∷ []) → ent 𝓤 (onEntry 𝓤 H A ms.signature (κ, (κ′, tt)) (q, (q′, tt)) a vals) (WpFn 𝓤 H C Λ code.function (v ∷ vptr b o ∷ iv i ∷ []) Post)
     walk s-is =
         qed W ((‵ (flft κ q) ⊛ ‵ (flft κ′ q′) ⊛ ‵ ftrue) ∷ ‵ (owns (ShrSlice (named 0) κ u16 ∷ MutRef (named 1) κ′ R.the-row ∷ I.the-row ∷ []) a vals) ∷ []) ∵
@@ -148,26 +150,26 @@ module _ {M : Type 1} (𝓤 : URA M) (H : Heap 𝓤) (A : Atoms 𝓤) (W : Given
         move ! (17 ∷ []) $ use1 W (‵ Own ⊛ ‵ Own) (shr-slice-copy 𝓤 H A W (named 0) κ u16 .twice s (v ∷ [])) $ split ! $ move ! (19 ∷ 0 ∷ []) $ use2 W (raw (StepC 𝓤 H A at-mem run .pre to)) (goes h-is) $
         -- [what stepped asks; the slice's; the cell; what the record owns; the open borrow; obs; auth; _5; …]
         calls-at ! fm (StepC 𝓤 H A at-mem run) known to (and-then ! (load ! (from ! (stop !)) (look ! 15 refl)) (and-then ! (load ! (from ! (stop !)) (look ! 7 refl)) (and-then ! (load ! (from ! (stop !)) (look ! 11 refl)) (no-more !)))) (λ w.
-        use1 W (later (some (λ (r : Numbered). ((‵ (flft κ q) ⊛ ‵ ftrue) ⊛ ‵ (S.the-row .own r (w ∷ []))) ⊛ raw (ensured 𝓤 H A step.ended (step.clauses 𝓤 H A at-mem run) (κ, tt) (s, (h, (i, tt))) tt r)))) (id⊢ 𝓤 _) $ await ! tt $ pick ! (λ r.
-        split ! $ move ! (1 ∷ []) $ use1 W (raw (fact 𝓤 (r ≡ stepRecordOf (now s) i h))) (said r) $ heard ! (r ≡ stepRecordOf (now s) i h) (λ e. split ! $ move ! (1 ∷ []) $ facts ! S.the-row (Is S.the-row) (shows 𝓤 H A S.the-row) r (w ∷ []) (λ is.
+        use1 W (later (some (λ (r : LentStep). ((‵ (flft κ q) ⊛ ‵ ftrue) ⊛ ‵ (S.the-row .own r (w ∷ []))) ⊛ raw (ensured 𝓤 H A step.ended (step.clauses 𝓤 H A at-mem run) (κ, tt) (s, (h, (i, tt))) tt r)))) (id⊢ 𝓤 _) $ await ! tt $ pick ! (λ r.
+        split ! $ move ! (1 ∷ []) $ use1 W (raw (fact 𝓤 (r ≡ lentStepOf (stepOf upd17132 (now s) i h)))) (said r) $ heard ! (r ≡ lentStepOf (stepOf upd17132 (now s) i h)) (λ e. split ! $ move ! (1 ∷ []) $ facts ! S.the-row (Is S.the-row) (shows 𝓤 H A S.the-row) r (w ∷ []) (λ is.
         -- [κ's token; the slice's; the cell; what the record owned; the open borrow; obs; auth; _5; …; _4; …; _3; …; _2; …; _1; …; _0; …]
         land ! (from ! (stop !)) (init ! 9 refl (LL.lawful S.the-type S′.the-laws 𝓤 H A W .typed r _ is .0)) $ rewrite ! 9 (λ (u : Val). ‵ (fat fullShare S′.mir l₄ 0 u)) (ap only (LL.tells S.the-type S′.the-laws r (w ∷ []) is)) refl $
-        assigns ! (of-opd ! (load ! (from ! (fld ! refl (stop !))) (look-in ! 9 (sub ! 1 refl (whole !))))) (from ! (hop ! (look ! 13 refl) (stop !))) (store-raw ! 2 refl (LL.lawful R.the-type R′.the-laws 𝓤 H A W .typed (r .left) _ (left-is r _ is) .0)) $
-        assigns ! (of-opd ! (load ! (from ! (fld ! refl (stop !))) (look-in ! 9 (sub ! 0 refl (whole !))))) (from ! (stop !)) (init ! 17 refl (uint-lawful 𝓤 H A W w8 .typed (r .number) _ (number-is r _ is) .0)) $
+        assigns ! (of-opd ! (load ! (from ! (fld ! refl (stop !))) (look-in ! 9 (sub ! 0 refl (whole !))))) (from ! (hop ! (look ! 13 refl) (stop !))) (store-raw ! 2 refl (LL.lawful R.the-type R′.the-laws 𝓤 H A W .typed (r .machine) _ (left-is r _ is) .0)) $
+        assigns ! (of-opd ! (load ! (from ! (fld ! refl (stop !))) (look-in ! 9 (sub ! 1 refl (whole !))))) (from ! (stop !)) (init ! 17 refl (uint-lawful 𝓤 H A W w8 .typed (r .number) _ (number-is r _ is) .0)) $
         -- the borrow is closed at the new record
-        move ! (3 ∷ []) $ drop ! $ owned ! R.the-row (Is R.the-row) (LL.makes R.the-type R′.the-plain 𝓤 H A) (r .left) _ (left-is r _ is) $ move ! (3 ∷ 0 ∷ 4 ∷ 5 ∷ 6 ∷ []) $ closes ! tt R.the-row (r .left) (rv (r .left) ∷ []) b o $
+        move ! (3 ∷ []) $ drop ! $ owned ! R.the-row (Is R.the-row) (LL.makes R.the-type R′.the-plain 𝓤 H A) (r .machine) _ (left-is r _ is) $ move ! (3 ∷ 0 ∷ 4 ∷ 5 ∷ 6 ∷ []) $ closes ! tt R.the-row (r .machine) (rv (r .machine) ∷ []) b o $
         -- [obs; the borrow; κ′'s token; κ's token; the slice's; _5; …; _4; …; _3; …; _2; …; _1; …; _0; …]
         returns ! (look ! 15 refl) $ forget ! 5 refl $ forget ! 7 refl $ forget ! 9 refl $ forget ! 11 refl $ forget ! 13 refl $ forget ! 15 refl $
         move ! (15 ∷ 16 ∷ []) $ free1 ! $ move ! (13 ∷ 14 ∷ []) $ free1 ! $ move ! (11 ∷ 12 ∷ []) $ free1 ! $ move ! (9 ∷ 10 ∷ []) $ free1 ! $ move ! (7 ∷ 8 ∷ []) $ free1 ! $ move ! (5 ∷ 6 ∷ []) $ free1 ! $ free0 ! $
         keep ! (0 ∷ 1 ∷ 2 ∷ 3 ∷ 4 ∷ []) $ by ! (exits r (w ∷ []) is e)))))))))))))
 
 module _ {M : Type 1} (𝓤 : URA M) (H : Heap 𝓤) (A : Atoms 𝓤) (W : Given 𝓤 H A) (at-mem : Memory → SProp 𝓤) (run : Routine → Fun 𝓤) where
-  ms-walks : (C : Calls 𝓤 H) (Λ : Loops 𝓤 H) → FmC 𝓤 H (W .laws) C → Triple 𝓤 (C #stepped) (StepC 𝓤 H A at-mem run) → Walks 𝓤 H A ms.ended stayed (WpFn 𝓤 H C Λ code.function) (ms.clauses 𝓤 H A at-mem run)
+  ms-walks : (C : Calls 𝓤 H) (Λ : Loops 𝓤 H) → FmC 𝓤 H (W .laws) C → Triple 𝓤 (C #lent-step) (StepC 𝓤 H A at-mem run) → Walks 𝓤 H A ms.ended stayed (WpFn 𝓤 H C Λ code.function) (ms.clauses 𝓤 H A at-mem run)
   ms-walks C Λ fm known = walked 𝓤 H A ms.ended stayed (ms.clauses 𝓤 H A at-mem run) (WpFn 𝓤 H C Λ code.function)
       (λ κs. (slice-vals, (ptr-vals, (LL.vals I.the-type I′.the-laws, tt)))) (λ κs. (shr-slice-tells (named 0) (κs .0) u16, (mut-tells (named 1) (κs .1 .0) R.the-row, (LL.tells I.the-type I′.the-laws, tt))))
       (λ κs qs bounds a _ are. via 𝓤 _ (fst∗ 𝓤 _ (emp 𝓤)) (walk 𝓤 H A W at-mem run (κs .0) (κs .1 .0) (qs .0) (qs .1 .0) (a .0) (a .1 .0 .ptr .0) (a .1 .0 .ptr .1) (a .1 .0 .name) (a .1 .0 .now) (a .1 .1 .0) (are .1 .1 .0) C Λ fm known (are .0)))
 
-ms-meets : {M : Type 1} (𝓤 : URA M) (H : Heap 𝓤) (A : Atoms 𝓤) → Given 𝓤 H A → (at-mem : Memory → SProp 𝓤) (run : Routine → Fun 𝓤) (𝓣 : Tables 𝓤 H) → Triple 𝓤 (𝓣 .C #stepped) (StepC 𝓤 H A at-mem run)
+ms-meets : {M : Type 1} (𝓤 : URA M) (H : Heap 𝓤) (A : Atoms 𝓤) → Given 𝓤 H A → (at-mem : Memory → SProp 𝓤) (run : Routine → Fun 𝓤) (𝓣 : Tables 𝓤 H) → Triple 𝓤 (𝓣 .C #lent-step) (StepC 𝓤 H A at-mem run)
     → Meets 𝓤 H A ms.signature (WpFn 𝓤 H (𝓣 .C) (𝓣 .Λ) code.function) (ms.spec 𝓤 H A at-mem run)
 ms-meets 𝓤 H A W at-mem run 𝓣 known =
     walk-meets 𝓤 H A ms.ended stayed W (goes-none-slice 𝓤 H A W 2 (0 ∷ []) tt (plain (λ _. u16)) yes, (goes-ref 𝓤 H A W 2 1 tt (plain (λ _. R.the-row)), (goes-none 𝓤 H A W 2 (λ _. I.the-row) yes (λ κs x f. refl), tt))) (ms.clauses 𝓤 H A at-mem run)
@@ -179,4 +181,4 @@ pollwezen-step-spec 𝓤 H 𝓜 𝓖 𝓡 =
     entered 𝓤 H (tripleOf 𝓤 H (𝓖 .A) ms.signature (ms.spec 𝓤 H (𝓖 .A) (𝓜 .mem) (𝓡 .run)))
     (tables 𝓤 H 𝓜 𝓡 code.env .C) (tables 𝓤 H 𝓜 𝓡 code.env .Λ) #pollwezen-step code.function (code.unfolded 𝓤 H 𝓜 𝓡)
     (ms-meets 𝓤 H (𝓖 .A) (givenOf 𝓤 H 𝓜 𝓖) (𝓜 .mem) (𝓡 .run) (tablesOf 𝓤 H 𝓜 (tables 𝓤 H 𝓜 𝓡 code.env))
-    (cited 𝓤 H (StepC 𝓤 H (𝓖 .A) (𝓜 .mem) (𝓡 .run)) 𝓜 𝓡 code.env #stepped step-def.routine code.calls-records·stepped (step-thm.met 𝓤 H 𝓜 𝓖 𝓡)))
+    (cited 𝓤 H (StepC 𝓤 H (𝓖 .A) (𝓜 .mem) (𝓡 .run)) 𝓜 𝓡 code.env #lent-step step-def.routine code.calls-pollwezen·calls·lent-step (step-thm.met 𝓤 H 𝓜 𝓖 𝓡)))

@@ -1,3 +1,4 @@
+use Rattle.machine.proofs.Marks.{is-marked, not-marked}
 use mathlib.Core.Path.{_≡_, sym, _∙_, ap, subst}
 use mathlib.Core.Bool.{true, false, _&&_}
 use mathlib.Core.List.{List}
@@ -7,9 +8,9 @@ use borrow.Author.Needs.{needs}
 use borrow.Author.Tests.{not-true, not-false}
 use lib.Dec.{eqb, lit≤}
 use Rattle.memory.specs.Chip.{upd17132}
-use Rattle.execution.specs.Reply.{Reply}
-use Rattle.execution.specs.Inside.{inputAt, wholeOf}
-use Rattle.machine.specs.Parts.{machineOf, cellsOf}
+use Rattle.cpu.specs.Reply.{Reply}
+use Rattle.cpu.specs.Joined.{inputAt, wholeOf}
+use Rattle.machine.specs.Parts.{isMarked, machineOf, cellsOf}
 use Rattle.machine.specs.Ranges.{allInRange}
 use Rattle.machine.specs.declared.Control.{Control}
 use Rattle.machine.specs.declared.Input.{Input}
@@ -20,7 +21,7 @@ use Rattle.cpu.proofs.running.go.Statement.{statement}
 use Rattle.cpu.proofs.running.go.Tie as tie
 
 abbrev Inv-loop : tie.InvT-loop
-Inv-loop rom budget cells₀ stack₀ regs₀ pins directions steps₀ cells stack regs steps = (release : ℕ) → allInRange upd17132 rom (wholeOf cells₀ stack₀ regs₀) (inputAt pins directions release) ≡ true → (regs₀ .standby && eqb release 0) ≡ false → Going upd17132 rom (inputAt pins directions release) budget (wholeOf cells₀ stack₀ regs₀) steps (wholeOf cells stack regs)
+Inv-loop rom budget cells₀ stack₀ regs₀ pins directions steps₀ cells stack regs steps = (release : ℕ) → allInRange upd17132 rom (wholeOf cells₀ stack₀ regs₀) (inputAt pins directions release) ≡ true → (isMarked (regs₀ .standby) && eqb release 0) ≡ false → Going upd17132 rom (inputAt pins directions release) budget (wholeOf cells₀ stack₀ regs₀) steps (wholeOf cells stack regs)
 
 abbrev μ-loop : tie.MeasureT-loop
 μ-loop rom budget cells₀ stack₀ regs₀ pins directions steps₀ cells stack regs steps = budget - steps
@@ -54,46 +55,46 @@ module _ (h : tie.At-loop Inv-loop μ-loop) where
       (sym (h .before .before .before .before .before .before .before .before .before .before .before .all .ensures) ∙ not-false _ (h .before .before .before .before .before .before .before .before .before .before .if2 .left))
 
   head : Going upd17132 rom input budget start (h .loop .steps) here
-  head = h .loop .inv (input .release) passed (sym (h .before .before .before .before .stays .ensures) ∙ h .before .before .before .if3 .left)
+  head = h .loop .inv (input .release) passed (sym (h .before .before .before .before .stays-standing .ensures) ∙ h .before .before .before .if3 .left)
 
   ends : (steps : ℕ) (r : Reply) (m : Machine) → Ends upd17132 rom input budget start steps r m → Ends upd17132 rom input budget machine steps r m
   ends steps r m e = subst (λ (x : Machine). Ends upd17132 rom input budget x steps r m) whole e
 
-went-requires : tie.Need-went-requires Inv-loop μ-loop
-went-requires c κs = search needs
+so-far-requires : tie.Need-so-far-requires Inv-loop μ-loop
+so-far-requires c κs = search needs
 
 returns : tie.Need-returns Inv-loop μ-loop
 returns c =
     let e = not-so-many _ _ _ _ _ (c .before .if1 .taken) in
-    rw (c .went .ensures) (e .run, e .step)
+    rw (c .so-far .ensures) (e .run, (e .step, e .cost))
 
 all-requires : tie.Need-all-requires Inv-loop μ-loop
 all-requires c κs = search needs
 
-went-requires-2 : tie.Need-went-requires-2 Inv-loop μ-loop
-went-requires-2 c κs = search needs
+so-far-requires-2 : tie.Need-so-far-requires-2 Inv-loop μ-loop
+so-far-requires-2 c κs = search needs
 
 returns-2 : tie.Need-returns-2 Inv-loop μ-loop
 returns-2 c =
     let e = not-in-range _ _ _ _ _ (sym (c .before .before .all .ensures) ∙ not-true _ (c .before .if2 .taken)) in
-    rw (c .went2 .ensures) (e .run, e .step)
+    rw (c .so-far2 .ensures) (e .run, (e .step, e .cost))
 
 regs-of-requires : tie.Need-regs-of-requires Inv-loop μ-loop
 regs-of-requires c κs = search needs
 
-stays-requires : tie.Need-stays-requires Inv-loop μ-loop
-stays-requires c κs = search needs
+stays-standing-requires : tie.Need-stays-standing-requires Inv-loop μ-loop
+stays-standing-requires c κs = search needs
 
-went-requires-3 : tie.Need-went-requires-3 Inv-loop μ-loop
-went-requires-3 c κs = search needs
+so-far-requires-3 : tie.Need-so-far-requires-3 Inv-loop μ-loop
+so-far-requires-3 c κs = search needs
 
 returns-3 : tie.Need-returns-3 Inv-loop μ-loop
 returns-3 c =
     let s = c .before .before .before .before .before .before .before .before .before .before .before .before .args in
-    let stand : (s .machine .control .standby && eqb (s .input .release) 0) ≡ true
-    = ap (λ (k : Control). k .standby && eqb (s .input .release) 0) (sym (c .before .before .before .regs-of .ensures)) ∙ sym (c .before .before .stays .ensures) ∙ c .before .if3 .taken in
+    let stand : (isMarked (s .machine .control .standby) && eqb (s .input .release) 0) ≡ true
+    = ap (λ (k : Control). isMarked (k .standby) && eqb (s .input .release) 0) (sym (c .before .before .before .regs-of .ensures)) ∙ sym (c .before .before .stays-standing .ensures) ∙ c .before .if3 .taken in
     let e = stays-so upd17132 (s .rom .now) (s .input) (s .budget) (s .machine) (omega arith) (sym (c .before .before .before .before .before .before .before .before .before .all .ensures) ∙ not-false _ (c .before .before .before .before .before .before .before .before .if2 .left)) stand in
-    rw (c .went3 .ensures) (e .run, e .step)
+    rw (c .so-far3 .ensures) (e .run, (e .step, e .cost))
 
 loop-holds : tie.Need-loop-holds Inv-loop μ-loop
 loop-holds c = λ release fine awake. begun _ _ _ _ _ (omega arith) fine awake
@@ -110,22 +111,22 @@ add-steps c = search needs
 join-requires : tie.Need-join-requires Inv-loop μ-loop
 join-requires c κs = search needs
 
-went-requires-4 : tie.Need-went-requires-4 Inv-loop μ-loop
-went-requires-4 c κs = search needs
+so-far-requires-4 : tie.Need-so-far-requires-4 Inv-loop μ-loop
+so-far-requires-4 c κs = search needs
 
 returns-4 : tie.Need-returns-4 Inv-loop μ-loop
 returns-4 c =
-    let h = c .before .before .before .before .before .before .before .before .before .before .before .before in
-    let e = ends h _ _ _ (stood _ _ _ _ _ _ _ (head h) (c .before .before .before .before .before .before .before .before .before .before .before .loop-test .taken) _ (rw (c .before .before .before .before .next .given .1) at (c .before .before .before .before .before .before .advance .ensures (input h .release) (head h .awake))) (c .before .before .if4 .taken)) in
-    rw (c .went4 .ensures, c .before .join .ensures) (e .run, e .step)
+    let h = c .before .before .before .before .before .before .before .before .before .before .before .before .before in
+    let e = ends h _ _ _ (stood _ _ _ _ _ _ _ (head h) (c .before .before .before .before .before .before .before .before .before .before .before .before .loop-test .taken) _ (rw (c .before .before .before .before .before .next .given .1) at (c .before .before .before .before .before .before .before .advance .ensures (input h .release) (head h .awake))) (is-marked _ (c .before .before .if4 .taken))) in
+    rw (c .so-far4 .ensures, c .before .join .ensures) (e .run, (e .step, e .cost))
 
 loop-less : tie.Need-loop-less Inv-loop μ-loop
 loop-less c = omega arith
 
 loop-again : tie.Need-loop-again Inv-loop μ-loop
 loop-again c = λ release fine awake.
-    let g = c .before .before .before .before .before .before .before .before .before .before .loop .inv release fine awake in
-    going _ _ _ _ _ _ _ g (c .before .before .before .before .before .before .before .before .before .loop-test .taken) (lit≤ tt) ar-fits _ (rw (c .before .before .next .given .1) at (c .before .before .before .before .advance .ensures release (g .awake))) (c .if4 .left)
+    let g = c .before .before .before .before .before .before .before .before .before .before .before .loop .inv release fine awake in
+    going _ _ _ _ _ _ _ g (c .before .before .before .before .before .before .before .before .before .before .loop-test .taken) (lit≤ tt) ar-fits _ (rw (c .before .before .before .next .given .1) at (c .before .before .before .before .before .advance .ensures release (g .awake))) (not-marked _ (c .if4 .left))
 
 enum-known-refusal : tie.Need-enum-known-refusal Inv-loop μ-loop
 enum-known-refusal c = search needs
@@ -133,26 +134,26 @@ enum-known-refusal c = search needs
 join-requires-2 : tie.Need-join-requires-2 Inv-loop μ-loop
 join-requires-2 c κs = search needs
 
-went-requires-5 : tie.Need-went-requires-5 Inv-loop μ-loop
-went-requires-5 c κs = search needs
+so-far-requires-5 : tie.Need-so-far-requires-5 Inv-loop μ-loop
+so-far-requires-5 c κs = search needs
 
 returns-5 : tie.Need-returns-5 Inv-loop μ-loop
 returns-5 c =
     let h = c .before .before .before .before .before .before .before .before .before .before .before in
     let e = ends h _ _ _ (refuses _ _ _ _ _ _ _ (head h) (c .before .before .before .before .before .before .before .before .before .before .loop-test .taken) _ _ (rw (c .before .before .before .refusal .given .1) at (c .before .before .before .before .before .advance .ensures (input h .release) (head h .awake)))) in
-    rw (c .went5 .ensures, c .before .join2 .ensures) (e .run, e .step)
+    rw (c .so-far5 .ensures, c .before .join2 .ensures) (e .run, (e .step, e .cost))
 
 join-requires-3 : tie.Need-join-requires-3 Inv-loop μ-loop
 join-requires-3 c κs = search needs
 
-went-requires-6 : tie.Need-went-requires-6 Inv-loop μ-loop
-went-requires-6 c κs = search needs
+so-far-requires-6 : tie.Need-so-far-requires-6 Inv-loop μ-loop
+so-far-requires-6 c κs = search needs
 
 returns-6 : tie.Need-returns-6 Inv-loop μ-loop
 returns-6 c =
     let h = c .before .before .before in
     let e = ends h _ _ _ (used _ _ _ _ _ _ _ (head h) (c .before .before .loop-test .left)) in
-    rw (c .went6 .ensures, c .before .join3 .ensures) (e .run, e .step)
+    rw (c .so-far6 .ensures, c .before .join3 .ensures) (e .run, (e .step, e .cost))
 
 pub go-spec : {M : Type 1} → statement M
 go-spec =
@@ -160,28 +161,28 @@ go-spec =
     (tie.spec
     Inv-loop
     μ-loop
-    went-requires
+    so-far-requires
     returns
     all-requires
-    went-requires-2
+    so-far-requires-2
     returns-2
     regs-of-requires
-    stays-requires
-    went-requires-3
+    stays-standing-requires
+    so-far-requires-3
     returns-3
     loop-holds
     advance-requires
     enum-known-next
     add-steps
     join-requires
-    went-requires-4
+    so-far-requires-4
     returns-4
     loop-less
     loop-again
     enum-known-refusal
     join-requires-2
-    went-requires-5
+    so-far-requires-5
     returns-5
     join-requires-3
-    went-requires-6
+    so-far-requires-6
     returns-6)

@@ -1,12 +1,13 @@
+use Rattle.machine.proofs.Marks.{is-marked, not-marked}
 use mathlib.Core.Path.{sym, _∙_, ap}
 use mathlib.Core.Bool.{false}
 use borrow.Author.Needs.{needs}
 use Rattle.isa.specs.Answers.{decodingOf}
 use Rattle.isa.specs.Decode.{decodeOf}
 use Rattle.memory.specs.Chip.{upd17132}
-use Rattle.control.specs.Control.{Transfer, onwardOf, marked, onwards}
+use Rattle.control.specs.Control.{Transfer, onwardOf, withSkip, onwards}
 use Rattle.machine.specs.Parts.{machineOf}
-use Rattle.execution.specs.Execute.{completed}
+use Rattle.cpu.specs.Reply.{completedStep}
 use Rattle.machine.specs.declared.Control.{Control}
 use Rattle.cpu.proofs.Phases.{past, passed-over, undecodable, carried-out, past-rom, word-at}
 use Rattle.cpu.proofs.stepping.advance.Statement.{statement}
@@ -35,12 +36,12 @@ onward-requires c κs = search needs
 returns-2 : tie.Need-returns-2
 unfolding onwardOf
 returns-2 c = λ release goes.
-    let s = c .before .before .before .before .before .before .before .before .args in
-    let w = word-at (s .rom .now) (s .regs .pc) _ (sym (c .before .before .before .before .before .before .fetch .ensures) ∙ c .before .before .before .before .word .given .1) in
-    ap (λ (k : Control). completed (machineOf (s .cells .now) k))
+    let s = c .before .before .before .before .before .before .before .before .before .args in
+    let w = word-at (s .rom .now) (s .regs .pc) _ (sym (c .before .before .before .before .before .before .before .fetch .ensures) ∙ c .before .before .before .before .before .word .given .1) in
+    ap (λ (k : Control). completedStep (machineOf (s .cells .now) k))
     (ap (λ (x : Transfer). x .control) (c .onward .ensures (s .stack .now))
-    ∙ ap (λ (k : Control). marked false (k .standby) (onwards upd17132 k)) (c .before .before .woken .ensures (s .stack .now)))
-    ∙ passed-over _ _ _ _ goes (w .0) (c .before .if1 .taken)
+    ∙ ap (λ (k : Control). withSkip false (onwards upd17132 k)) (c .before .before .before .woken .ensures (s .stack .now)))
+    ∙ passed-over _ _ _ _ goes (w .0) (is-marked _ (c .before .if1 .taken))
 
 decode-requires : tie.Need-decode-requires
 decode-requires c κs = search needs
@@ -53,9 +54,9 @@ enum-told-2 c = search needs
 
 returns-3 : tie.Need-returns-3
 returns-3 c = λ release goes.
-    let s = c .before .before .before .before .before .before .before .before .before .before .args in
-    let w = word-at (s .rom .now) (s .regs .pc) _ (sym (c .before .before .before .before .before .before .before .before .fetch .ensures) ∙ c .before .before .before .before .before .before .word .given .1) in
-    undecodable _ _ _ _ goes (w .0) (c .before .before .before .if1 .left)
+    let s = c .before .before .before .before .before .before .before .before .before .before .before .args in
+    let w = word-at (s .rom .now) (s .regs .pc) _ (sym (c .before .before .before .before .before .before .before .before .before .fetch .ensures) ∙ c .before .before .before .before .before .before .before .word .given .1) in
+    undecodable _ _ _ _ goes (w .0) (not-marked _ (c .before .before .before .if1 .left))
     (ap decodeOf (w .1) ∙ sym (c .before .before .decode .ensures) ∙ ap decodingOf (c .enum-told2 .given .1))
 
 execute-requires : tie.Need-execute-requires
@@ -63,9 +64,9 @@ execute-requires c κs = search needs
 
 returns-4 : tie.Need-returns-4
 returns-4 c = λ release goes.
-    let s = c .before .before .before .before .before .before .before .before .before .before .before .before .before .before .args in
-    let w = word-at (s .rom .now) (s .regs .pc) _ (sym (c .before .before .before .before .before .before .before .before .before .before .before .before .fetch .ensures) ∙ c .before .before .before .before .before .before .before .before .before .before .word .given .1) in
-    carried-out _ _ _ (s .cells .now) (s .stack .now) (s .regs) _ (c .before .before .before .before .before .before .before .before .woken .ensures (s .stack .now)) goes (w .0) (c .before .before .before .before .before .before .before .if1 .left)
+    let s = c .before .before .before .before .before .before .before .before .before .before .before .before .before .before .before .args in
+    let w = word-at (s .rom .now) (s .regs .pc) _ (sym (c .before .before .before .before .before .before .before .before .before .before .before .before .before .fetch .ensures) ∙ c .before .before .before .before .before .before .before .before .before .before .before .word .given .1) in
+    carried-out _ _ _ (s .cells .now) (s .stack .now) (s .regs) _ (c .before .before .before .before .before .before .before .before .before .woken .ensures (s .stack .now)) goes (w .0) (not-marked _ (c .before .before .before .before .before .before .before .if1 .left))
     (c .before .before .before .before .instruction .given .0 .0)
     (ap decodeOf (w .1) ∙ sym (c .before .before .before .before .before .before .decode .ensures) ∙ ap decodingOf (c .before .before .before .before .instruction .given .1))
     (c .execute .result) _ _ (c .execute .ensures release)

@@ -1,0 +1,69 @@
+use Rattle.cpu.proofs.Settled.{completes, misses, refuses}
+use Rattle.control.specs.Control.{controlOf}
+use Rattle.operations.specs.Writes.{writesAt, writesOf}
+use Rattle.cpu.specs.Execute.{writtenOf, transferBy, pastTable}
+use borrow.Author.Tests.{le-leb, lt-leb}
+use borrow.Author.Needs.{needs}
+use Rattle.cpu.proofs.execution.movt.Statement.{statement}
+use Rattle.cpu.proofs.execution.movt.Tie as tie
+
+table-requires : tie.Need-table-requires
+table-requires c κs = search needs
+
+enum-known-transfer : tie.Need-enum-known-transfer
+enum-known-transfer c = search needs
+
+enum-told : tie.Need-enum-told
+enum-told c = search needs
+
+returns : tie.Need-returns
+unfolding transferBy controlOf pastTable writtenOf writesOf writesAt
+returns c = λ input stack.
+    let g = c .enum-told .given in
+    rw (g .1) (refuses _ _ input _ stack _ _ (g .0 .0) stack (rw (g .1) at (c .before .before .table .ensures stack)))
+
+ar-requires : tie.Need-ar-requires
+ar-requires c κs = search needs
+
+cast-ar : tie.Need-cast-ar
+cast-ar c = search needs
+
+returns-2 : tie.Need-returns-2
+unfolding transferBy controlOf pastTable writtenOf writesOf writesAt
+returns-2 c = λ input stack.
+    let g = c .before .before .before .before .transfer .given in
+    misses _ _ input _ stack _ _ stack (g .0 .0) (rw (g .1) at (c .before .before .before .before .before .before .table .ensures stack))
+    (rw (← c .before .ar .ensures) (le-leb _ _ (c .if1 .taken)))
+
+mul-write-buffer : tie.Need-mul-write-buffer
+mul-write-buffer c = search needs
+
+shared-slice-read-write-buffer : tie.Need-shared-slice-read-write-buffer
+shared-slice-read-write-buffer c = search needs
+
+write-buffer-requires : tie.Need-write-buffer-requires
+write-buffer-requires c κs = search needs
+
+returns-3 : tie.Need-returns-3
+unfolding transferBy controlOf pastTable writtenOf writesOf writesAt
+returns-3 c = λ input stack.
+    let g = c .before .before .before .before .before .before .before .transfer .given in
+    completes _ _ input _ stack _ _ _ stack (g .0 .0) (rw (g .1) at (c .before .before .before .before .before .before .before .before .before .table .ensures stack))
+    (rw (← c .before .before .before .before .ar .ensures) (lt-leb _ _ (c .before .before .before .if1 .left)))
+    (rw (← c .before .before .before .before .ar .ensures) (c .write-buffer .ensures))
+
+pub movt-spec : {M : Type 1} → statement M
+movt-spec =
+    tie.close
+    (tie.spec
+    table-requires
+    enum-known-transfer
+    enum-told
+    returns
+    ar-requires
+    cast-ar
+    returns-2
+    mul-write-buffer
+    shared-slice-read-write-buffer
+    write-buffer-requires
+    returns-3)

@@ -1,0 +1,41 @@
+use mathlib.Core.Path.{refl}
+use Rattle.control.specs.Control.{controlOf}
+use Rattle.operations.specs.Writes.{writesAt, writesOf}
+use Rattle.cpu.specs.Execute.{writtenOf, transferBy, pastTable}
+use Rattle.cpu.proofs.Settled.{completes, refuses}
+use borrow.Author.Needs.{needs}
+use Rattle.cpu.proofs.execution.pop_ar.Statement.{statement}
+use Rattle.cpu.proofs.execution.pop_ar.Tie as tie
+
+top-requires : tie.Need-top-requires
+top-requires c κs = search needs
+
+pop-requires : tie.Need-pop-requires
+pop-requires c κs = search needs
+
+enum-known-transfer : tie.Need-enum-known-transfer
+enum-known-transfer c = search needs
+
+enum-told : tie.Need-enum-told
+enum-told c = search needs
+
+returns : tie.Need-returns
+unfolding transferBy controlOf pastTable writtenOf writesOf writesAt
+returns c = λ rom input.
+    let g = c .enum-told .given in
+    rw (g .1) (refuses _ rom input _ _ _ _ (g .0 .0) _ (rw (g .1) at (c .before .before .pop .ensures)))
+
+write-ar-requires : tie.Need-write-ar-requires
+write-ar-requires c κs = search needs
+
+returns-2 : tie.Need-returns-2
+unfolding transferBy controlOf pastTable writtenOf writesOf writesAt
+returns-2 c = λ rom input.
+    let g = c .before .before .before .transfer .given in
+    completes _ rom input _ _ _ _ _ _ (g .0 .0) (rw (g .1) at (c .before .before .before .before .before .pop .ensures)) refl
+    (rw (← c .before .before .before .before .before .before .before .top .ensures) (c .write-ar .ensures))
+
+pub pop-ar-spec : {M : Type 1} → statement M
+pop-ar-spec =
+    tie.close
+    (tie.spec top-requires pop-requires enum-known-transfer enum-told returns write-ar-requires returns-2)

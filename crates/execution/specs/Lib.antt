@@ -1,3 +1,0 @@
-pub mod Reply
-pub mod Execute
-pub mod Inside

@@ -1,0 +1,28 @@
+-- A step's number that is a refusal leaves the record as it came.
+-- Assumes nothing.
+use mathlib.Core.Path.{_≡_, _∙_, ap, refl}
+use mathlib.Core.List.{List}
+use Prim.Native.Nat.{ℕ}
+use Rattle.memory.specs.Chip.{upd17132}
+use Rattle.machine.specs.declared.Input.{Input}
+use Rattle.machine.specs.declared.Machine.{Machine}
+use Rattle.cpu.specs.Answers.{replyNumber}
+use Rattle.cpu.specs.Reply.{Reply, done, inStandby, refused, Step}
+use Rattle.cpu.specs.Step.{stepOf}
+use Rattle.cpu.proofs.Refused.{step-keeps}
+use Rattle.pollwezen.specs.Lent.{lentStepOf}
+use Rattle.pollwezen.specs.declared.LentStep.{LentStep}
+
+by-reply : (q : Reply) (m : Machine) (s : Step) → s .reply ≡ q → ((n : ℕ) → s .reply ≡ refused n → s .machine ≡ m)
+    → (replyNumber (s .reply) ≡ 0 → ⊥) → (replyNumber (s .reply) ≡ 255 → ⊥) → s .machine ≡ m
+by-reply done m s e k zero-not last-not = absurd (zero-not (ap replyNumber e))
+by-reply inStandby m s e k zero-not last-not = absurd (last-not (ap replyNumber e))
+by-reply (refused n) m s e k zero-not last-not = k n e
+
+pub kept : (rom : List ℕ) (i : Input) (m : Machine) (x : LentStep) → x ≡ lentStepOf (stepOf upd17132 rom i m)
+    → (x .number ≡ 0 → ⊥) → (x .number ≡ 255 → ⊥) → x .machine ≡ m
+kept rom i m x e zero-not last-not =
+    let s = stepOf upd17132 rom i m in
+    let n : x .number ≡ replyNumber (s .reply) = ap (λ (y : LentStep). y .number) e in
+    ap (λ (y : LentStep). y .machine) e
+    ∙ by-reply (s .reply) m s refl (step-keeps upd17132 rom i m) (λ z. zero-not (n ∙ z)) (λ z. last-not (n ∙ z))

@@ -1,4 +1,0 @@
-pub mod Each
-pub mod Tables
-pub mod Words
-pub mod Rows

@@ -1,3 +1,0 @@
-pub mod Listing
-pub mod Inside
-pub mod Rows
