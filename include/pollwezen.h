@@ -1,7 +1,6 @@
 /* Pollwezen: the uPD17132 for a host program in C. Link libpollwezen.a, which `rt staticlib pollwezen` writes.
- * The contracts are in crates/pollwezen/src/lib.rt, the definitions in crates/records/specs/Records.antt,
- * crates/replies/specs/Replies.antt, crates/rows/specs/Listing.antt and crates/coding/specs/Coding.antt, and those of the
- * check, the file and the text in the folders specs of crates/verifier, crates/station_file and crates/transcript.
+ * The contracts are in crates/pollwezen/src/lib.rt; the definitions that they cite in the folders specs of crates/machine and
+ * crates/cpu (record, step, run), crates/verifier, crates/listing, crates/station_file, crates/transcript and crates/pollwezen.
  * The caller keeps what C asks of any call: pointers (not NULL, even where the length is 0) to as many elements as said, and a
  * lent record or buffer that no other argument overlaps. Whatever stands in them is answered or refused. No buffer is written
  * past its length, and none is kept. */
@@ -57,7 +56,7 @@ typedef struct {
     uint8_t levels;
     uint8_t skip;
     uint8_t standby;
-} pollwezen_record;
+} pollwezen_machine;
 
 /* The input record: P0A to P0E, a nibble each, and the release bit. */
 typedef struct {
@@ -70,14 +69,14 @@ typedef struct {
 typedef struct {
     uint32_t steps;
     uint8_t number;
-} pollwezen_report;
+} pollwezen_run_reply;
 
 /* What the check answers. The word and the rule are those of POLLWEZEN_FAIL, else 0. */
 typedef struct {
     uint8_t number;
     uint16_t word;
     uint8_t rule;
-} pollwezen_checked;
+} pollwezen_verdict_reply;
 
 /* What the reader answers: how many ROM words, sheet entries and input records it wrote, or a refusal with zeros. */
 typedef struct {
@@ -85,13 +84,13 @@ typedef struct {
     size_t words;
     size_t entries;
     size_t records;
-} pollwezen_counts;
+} pollwezen_read_reply;
 
 /* What the writer and the transcript answer: how many bytes they wrote, or a refusal with 0. */
 typedef struct {
     uint8_t number;
     size_t length;
-} pollwezen_output;
+} pollwezen_output_reply;
 
 /* What a word is: its row in the list of the instruction set (POLLWEZEN_ROWS below) and its operands in the list's order, a
  * program address in `addr` and any other in `first` and `second`; those that the row lacks are 0. Or refusal 3 and zeros. */
@@ -101,13 +100,13 @@ typedef struct {
     uint8_t first;
     uint8_t second;
     uint16_t addr;
-} pollwezen_listed;
+} pollwezen_decoded_row;
 
 /* The word of a row with its operands, or a refusal with word 0. */
 typedef struct {
     uint8_t number;
     uint16_t word;
-} pollwezen_coded;
+} pollwezen_encoded_row;
 
 /* The rows, from 0 on, in the order of the manual's list (source 000, 18.3). */
 #define POLLWEZEN_ROWS \
@@ -119,39 +118,39 @@ typedef struct {
         "BR addr", "BR @AR", "CALL addr", "CALL @AR", "RET", "RETSK", "RETI", "EI", "DI", "STOP s", "HALT h", "NOP" \
     }
 
-pollwezen_record pollwezen_reset(void);
+pollwezen_machine pollwezen_reset(void);
 
 /* One step on the lent record. A refusal leaves it as it came. */
-uint8_t pollwezen_step(const uint16_t *rom, size_t words, pollwezen_record *lent, pollwezen_input input);
+uint8_t pollwezen_step(const uint16_t *rom, size_t words, pollwezen_machine *machine, pollwezen_input input);
 
 /* A counted run on the lent record, of 0 to 65,535 steps. It ends at a refusal, in standby or at the budget. A refused run
  * keeps the state of its completed steps. */
-pollwezen_report pollwezen_run(const uint16_t *rom, size_t words, pollwezen_record *lent, pollwezen_input input,
+pollwezen_run_reply pollwezen_run(const uint16_t *rom, size_t words, pollwezen_machine *machine, pollwezen_input input,
                                uint32_t budget);
 
 /* The check of a ROM and its sheet, one level a word. Refusals: 1 for the ROM's length, 9 for the sheet's. */
-pollwezen_checked pollwezen_verify(const uint16_t *rom, size_t words, const uint8_t *depths, size_t entries);
+pollwezen_verdict_reply pollwezen_verify(const uint16_t *rom, size_t words, const uint8_t *sheet, size_t entries);
 
 /* The instruction that a word is. Refusal: 3. */
-pollwezen_listed pollwezen_decode(uint16_t word);
+pollwezen_decoded_row pollwezen_decode(uint16_t word);
 
 /* The word of an instruction. Refusals: 1 for a row past the list, 10 for an operand that is too large for its field or that
  * the row does not have. */
-pollwezen_coded pollwezen_encode(uint8_t row, uint8_t first, uint8_t second, uint16_t addr);
+pollwezen_encoded_row pollwezen_encode(uint8_t row, uint8_t first, uint8_t second, uint16_t addr);
 
 /* Reads a station file to the front of three lent buffers; a sheet of no entries is none. An input record is eleven bytes: five
  * pins, five directions, release. Refusals: 20 to 25, the last where a buffer is too short. A refused file writes nothing. */
-pollwezen_counts pollwezen_read(const uint8_t *file, size_t bytes, uint16_t *rom, size_t rom_room, uint8_t *sheet,
+pollwezen_read_reply pollwezen_read(const uint8_t *file, size_t bytes, uint16_t *rom, size_t rom_room, uint8_t *sheet,
                                 size_t sheet_room, uint8_t *inputs, size_t inputs_room);
 
 /* Writes a station's file to the front of the lent buffer. Refusals: 22, 23 and 25. A refused station writes nothing. */
-pollwezen_output pollwezen_write(const uint16_t *rom, size_t words, const uint8_t *sheet, size_t entries,
+pollwezen_output_reply pollwezen_write(const uint16_t *rom, size_t words, const uint8_t *sheet, size_t entries,
                                  const uint8_t *inputs, size_t input_bytes, uint8_t *out, size_t room);
 
 /* Puts what the program `station` prints for a file to the front of the lent buffer, with no closing 0. A bad file has a text
  * too, so the one refusal is 25, and then nothing is written. A buffer of POLLWEZEN_TEXT_BYTES, 100,000, is enough for every
  * text, and quickest: before it is put into a shorter one the text is measured. */
-pollwezen_output pollwezen_transcript(const uint8_t *file, size_t bytes, uint8_t *out, size_t room);
+pollwezen_output_reply pollwezen_transcript(const uint8_t *file, size_t bytes, uint8_t *out, size_t room);
 
 #ifdef __cplusplus
 }

@@ -5,12 +5,12 @@
 
 static int is_listed(uint16_t word, const char *name, uint8_t first, uint8_t second, uint16_t addr) {
     static const char *const rows[] = POLLWEZEN_ROWS;
-    pollwezen_listed l = pollwezen_decode(word);
+    pollwezen_decoded_row l = pollwezen_decode(word);
     return l.number == POLLWEZEN_DONE && l.row < sizeof rows / sizeof rows[0] && strcmp(rows[l.row], name) == 0
         && l.first == first && l.second == second && l.addr == addr;
 }
 
-static int is_coded(pollwezen_coded c, uint8_t number, uint16_t word) {
+static int is_coded(pollwezen_encoded_row c, uint8_t number, uint16_t word) {
     return c.number == number && c.word == word;
 }
 
@@ -31,7 +31,7 @@ static void words(void) {
     expect(is_listed(0x3F2A, "POKE rf,WR", 0x7A, 0, 0), "POKE 7AH");
     expect(is_listed(0x387C, "RORC r", 12, 0, 0), "RORC 12");
     expect(is_listed(0x3CF0, "NOP", 0, 0, 0), "NOP");
-    pollwezen_listed l = pollwezen_decode(0x3CF1);
+    pollwezen_decoded_row l = pollwezen_decode(0x3CF1);
     expect(l.number == 3 && l.row == 0 && l.first == 0 && l.second == 0 && l.addr == 0, "no instruction");
 }
 
@@ -39,7 +39,7 @@ static void words(void) {
 static void back(void) {
     unsigned instructions = 0;
     for (unsigned word = 0; word < 65536; word++) {
-        pollwezen_listed l = pollwezen_decode((uint16_t)word);
+        pollwezen_decoded_row l = pollwezen_decode((uint16_t)word);
         if (l.number == POLLWEZEN_DONE) {
             instructions++;
             expect(is_coded(pollwezen_encode(l.row, l.first, l.second, l.addr), 0, (uint16_t)word), "a word comes back");

@@ -31,23 +31,23 @@ static int untouched(const void *from, size_t bytes) {
     return 1;
 }
 
-static pollwezen_counts read_into(const uint8_t *file, size_t bytes, size_t words, size_t entries, size_t input_bytes) {
+static pollwezen_read_reply read_into(const uint8_t *file, size_t bytes, size_t words, size_t entries, size_t input_bytes) {
     clear();
     return pollwezen_read(file, bytes, rom, words, sheet, entries, inputs, input_bytes);
 }
 
-static pollwezen_counts read_all(const uint8_t *file, size_t bytes) {
+static pollwezen_read_reply read_all(const uint8_t *file, size_t bytes) {
     return read_into(file, bytes, POLLWEZEN_WORDS, POLLWEZEN_WORDS, POLLWEZEN_INPUT_BYTES);
 }
 
 /* A refused file: its number, zeros, and nothing written. */
-static void none(pollwezen_counts c, uint8_t number, const char *what) {
+static void none(pollwezen_read_reply c, uint8_t number, const char *what) {
     expect(c.number == number && c.words == 0 && c.entries == 0 && c.records == 0, what);
     expect(untouched(rom, sizeof rom) && untouched(sheet, sizeof sheet) && untouched(inputs, sizeof inputs), what);
 }
 
 static void reads(void) {
-    pollwezen_counts c = read_into(example, sizeof example, 2, 2, 22);
+    pollwezen_read_reply c = read_into(example, sizeof example, 2, 2, 22);
     expect(c.number == POLLWEZEN_DONE && c.words == 2 && c.entries == 2 && c.records == 2, "the example is read");
     expect(rom[0] == 0xE805 && rom[1] == 0x6001 && untouched(rom + 2, sizeof rom - 4), "its words");
     expect(sheet[0] == 0 && sheet[1] == 0 && untouched(sheet + 2, sizeof sheet - 2), "its sheet");
@@ -74,7 +74,7 @@ static void writes(void) {
     static const uint16_t words[] = {0xE805, 0x6001};
     static const uint8_t levels[] = {0, 0}, wrong[] = {0, 6}, records[22] = {0};
     clear();
-    pollwezen_output o = pollwezen_write(words, 2, levels, 2, records, 22, out, sizeof example);
+    pollwezen_output_reply o = pollwezen_write(words, 2, levels, 2, records, 22, out, sizeof example);
     expect(o.number == POLLWEZEN_DONE && o.length == sizeof example, "the example is written");
     expect(memcmp(out, example, sizeof example) == 0, "its bytes");
     expect(untouched(out + sizeof example, sizeof out - sizeof example), "no byte after them");
@@ -92,7 +92,7 @@ static void writes(void) {
 static void transcripts(void) {
     size_t length = sizeof text - 1;
     clear();
-    pollwezen_output o = pollwezen_transcript(example, sizeof example, out, length);
+    pollwezen_output_reply o = pollwezen_transcript(example, sizeof example, out, length);
     expect(o.number == POLLWEZEN_DONE && o.length == length && memcmp(out, text, length) == 0, "the example's text");
     expect(untouched(out + length, sizeof out - length), "no byte after it");
     clear();

@@ -15,13 +15,13 @@ void expect(int holds, const char *what) {
     }
 }
 
-static int same(const pollwezen_record *a, const pollwezen_record *b) {
+static int same(const pollwezen_machine *a, const pollwezen_machine *b) {
     return memcmp(a->cells, b->cells, sizeof a->cells) == 0 && memcmp(a->stack, b->stack, sizeof a->stack) == 0
         && a->pc == b->pc && a->levels == b->levels && a->skip == b->skip && a->standby == b->standby;
 }
 
 static void reset(void) {
-    pollwezen_record r = pollwezen_reset(), zero;
+    pollwezen_machine r = pollwezen_reset(), zero;
     memset(&zero, 0, sizeof zero);
     expect(same(&r, &zero), "reset gives zeros");
 }
@@ -31,7 +31,7 @@ static const uint16_t program[] = {0xE905, 0x4905, 0xE004, 0x3BF8, 0x38E0};
 static const pollwezen_input none = {{0}, {0}, 0};
 
 static void steps(void) {
-    pollwezen_record r = pollwezen_reset(), before;
+    pollwezen_machine r = pollwezen_reset(), before;
     expect(pollwezen_step(program, 5, &r, none) == POLLWEZEN_DONE && r.cells[0x10] == 5 && r.pc == 1, "MOV 10H,#5");
     expect(pollwezen_step(program, 5, &r, none) == POLLWEZEN_DONE && r.skip == 1, "SKE sets the mark");
     expect(pollwezen_step(program, 5, &r, none) == POLLWEZEN_DONE && r.skip == 0 && r.pc == 3, "a skipped word");
@@ -52,7 +52,7 @@ static void steps(void) {
 /* Each record and input out of range is refused with 1, and the record stays. */
 static void out_of_range(void) {
     for (int fault = 0; fault < 9; fault++) {
-        pollwezen_record r = pollwezen_reset(), before;
+        pollwezen_machine r = pollwezen_reset(), before;
         pollwezen_input in = none;
         switch (fault) {
         case 0: r.skip = 2; break;
@@ -66,24 +66,24 @@ static void out_of_range(void) {
         case 8: in.release = 2; break;
         }
         before = r;
-        pollwezen_report ran;
+        pollwezen_run_reply ran;
         expect(pollwezen_step(program, 5, &r, in) == 1 && same(&r, &before), "a step out of range");
         ran = pollwezen_run(program, 5, &r, in, 3);
         expect(ran.number == 1 && ran.steps == 0 && same(&r, &before), "a run out of range");
     }
-    pollwezen_record r = pollwezen_reset(), before = r;
+    pollwezen_machine r = pollwezen_reset(), before = r;
     expect(pollwezen_step(program, 0, &r, none) == 1 && same(&r, &before), "a step in a ROM of no words");
-    pollwezen_report ran = pollwezen_run(program, 0, &r, none, 3);
+    pollwezen_run_reply ran = pollwezen_run(program, 0, &r, none, 3);
     expect(ran.number == 1 && ran.steps == 0 && same(&r, &before), "a run in a ROM of no words");
     ran = pollwezen_run(program, 5, &r, none, 65536);
     expect(ran.number == 1 && ran.steps == 0 && same(&r, &before), "a budget too large");
 }
 
 static void runs(void) {
-    pollwezen_record r = pollwezen_reset();
-    pollwezen_report ran = pollwezen_run(program, 5, &r, none, 65535);
+    pollwezen_machine r = pollwezen_reset();
+    pollwezen_run_reply ran = pollwezen_run(program, 5, &r, none, 65535);
     expect(ran.steps == 4 && ran.number == POLLWEZEN_DONE && r.standby == 1, "a run up to HALT");
-    pollwezen_record before = r;
+    pollwezen_machine before = r;
     pollwezen_input release = none;
     release.release = 1;
     ran = pollwezen_run(program, 5, &r, release, 65535);
@@ -97,7 +97,7 @@ static void ports(void) {
     for (unsigned port = 0; port < 5; port++) {
         uint16_t at = port == 4 ? 0x6F : (uint16_t)(0x70 + port);
         uint16_t word = (uint16_t)(0x4000 | at << 4);
-        pollwezen_record r = pollwezen_reset();
+        pollwezen_machine r = pollwezen_reset();
         pollwezen_input in = none;
         in.pins[port] = 3;
         expect(pollwezen_step(&word, 1, &r, in) == POLLWEZEN_DONE && r.cells[0] == 3, "a pin");
@@ -110,7 +110,7 @@ static void ports(void) {
 static void verdicts(void) {
     static const uint16_t rom[] = {0xE003, 0x6000, 0x38F0, 0x38E0}, skipping[] = {0xE003, 0x6000, 0x38F0, 0x39E0};
     static const uint8_t sheet[] = {0, 0, 15, 1};
-    pollwezen_checked c = pollwezen_verify(rom, 4, sheet, 4);
+    pollwezen_verdict_reply c = pollwezen_verify(rom, 4, sheet, 4);
     expect(c.number == POLLWEZEN_DONE && c.word == 0 && c.rule == 0, "a sheet that passes");
     c = pollwezen_verify(skipping, 4, sheet, 4);
     expect(c.number == POLLWEZEN_FAIL && c.word == 0 && c.rule == 5, "a sheet that fails");

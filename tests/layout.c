@@ -6,14 +6,14 @@
 
 /* Two of each struct, as in crates/layout/src/lib.rt. */
 typedef struct {
-    pollwezen_record records[2];
+    pollwezen_machine machines[2];
     pollwezen_input inputs[2];
-    pollwezen_report reports[2];
-    pollwezen_checked checks[2];
-    pollwezen_counts counts[2];
-    pollwezen_output outputs[2];
-    pollwezen_listed listings[2];
-    pollwezen_coded codes[2];
+    pollwezen_run_reply run_replies[2];
+    pollwezen_verdict_reply verdict_replies[2];
+    pollwezen_read_reply read_replies[2];
+    pollwezen_output_reply output_replies[2];
+    pollwezen_decoded_row decoded_rows[2];
+    pollwezen_encoded_row encoded_rows[2];
 } laid;
 
 void layout_fill(laid *lent);
@@ -43,17 +43,17 @@ static void field(const char *name, size_t at, size_t width, unsigned index, uin
     field(#type "." #name, AT(array, type, name) + (n) * SIZE(type, name[0]), SIZE(type, name[0]), i, down)
 
 static void fields(unsigned i) {
-    size_t cells = COUNT(pollwezen_record, cells);
+    size_t cells = COUNT(pollwezen_machine, cells);
     for (size_t n = 0; n < cells; n++) {
-        PLACE(records, pollwezen_record, cells, n, n == 0 ? 2 : n + 1 == cells ? 3 : 1);
+        PLACE(machines, pollwezen_machine, cells, n, n == 0 ? 2 : n + 1 == cells ? 3 : 1);
     }
-    FIELD(records, pollwezen_record, pc, 4);
-    for (size_t n = 0; n < COUNT(pollwezen_record, stack); n++) {
-        PLACE(records, pollwezen_record, stack, n, 5 + n);
+    FIELD(machines, pollwezen_machine, pc, 4);
+    for (size_t n = 0; n < COUNT(pollwezen_machine, stack); n++) {
+        PLACE(machines, pollwezen_machine, stack, n, 5 + n);
     }
-    FIELD(records, pollwezen_record, levels, 10);
-    FIELD(records, pollwezen_record, skip, 11);
-    FIELD(records, pollwezen_record, standby, 12);
+    FIELD(machines, pollwezen_machine, levels, 10);
+    FIELD(machines, pollwezen_machine, skip, 11);
+    FIELD(machines, pollwezen_machine, standby, 12);
     for (size_t n = 0; n < COUNT(pollwezen_input, pins); n++) {
         PLACE(inputs, pollwezen_input, pins, n, 1 + n);
     }
@@ -61,24 +61,24 @@ static void fields(unsigned i) {
         PLACE(inputs, pollwezen_input, directions, n, 6 + n);
     }
     FIELD(inputs, pollwezen_input, release, 11);
-    FIELD(reports, pollwezen_report, steps, 1);
-    FIELD(reports, pollwezen_report, number, 2);
-    FIELD(checks, pollwezen_checked, number, 1);
-    FIELD(checks, pollwezen_checked, word, 2);
-    FIELD(checks, pollwezen_checked, rule, 3);
-    FIELD(counts, pollwezen_counts, number, 1);
-    FIELD(counts, pollwezen_counts, words, 2);
-    FIELD(counts, pollwezen_counts, entries, 3);
-    FIELD(counts, pollwezen_counts, records, 4);
-    FIELD(outputs, pollwezen_output, number, 1);
-    FIELD(outputs, pollwezen_output, length, 2);
-    FIELD(listings, pollwezen_listed, number, 1);
-    FIELD(listings, pollwezen_listed, row, 2);
-    FIELD(listings, pollwezen_listed, first, 3);
-    FIELD(listings, pollwezen_listed, second, 4);
-    FIELD(listings, pollwezen_listed, addr, 5);
-    FIELD(codes, pollwezen_coded, number, 1);
-    FIELD(codes, pollwezen_coded, word, 2);
+    FIELD(run_replies, pollwezen_run_reply, steps, 1);
+    FIELD(run_replies, pollwezen_run_reply, number, 2);
+    FIELD(verdict_replies, pollwezen_verdict_reply, number, 1);
+    FIELD(verdict_replies, pollwezen_verdict_reply, word, 2);
+    FIELD(verdict_replies, pollwezen_verdict_reply, rule, 3);
+    FIELD(read_replies, pollwezen_read_reply, number, 1);
+    FIELD(read_replies, pollwezen_read_reply, words, 2);
+    FIELD(read_replies, pollwezen_read_reply, entries, 3);
+    FIELD(read_replies, pollwezen_read_reply, records, 4);
+    FIELD(output_replies, pollwezen_output_reply, number, 1);
+    FIELD(output_replies, pollwezen_output_reply, length, 2);
+    FIELD(decoded_rows, pollwezen_decoded_row, number, 1);
+    FIELD(decoded_rows, pollwezen_decoded_row, row, 2);
+    FIELD(decoded_rows, pollwezen_decoded_row, first, 3);
+    FIELD(decoded_rows, pollwezen_decoded_row, second, 4);
+    FIELD(decoded_rows, pollwezen_decoded_row, addr, 5);
+    FIELD(encoded_rows, pollwezen_encoded_row, number, 1);
+    FIELD(encoded_rows, pollwezen_encoded_row, word, 2);
 }
 
 void layout(void) {

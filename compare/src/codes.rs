@@ -4,7 +4,7 @@
 use reference::isa::Instruction::*;
 use reference::isa::{decode, encode, Instruction};
 
-use crate::host::{self, Coded, Listed};
+use crate::host::{self, DecodedRow, EncodedRow};
 use crate::pair::{self, Finding};
 use crate::random::Random;
 use crate::tally::Tally;
@@ -70,7 +70,7 @@ const LIST: [Row; 47] = [
 ];
 
 /// The instruction that the proved decoder lists.
-fn made_of(listed: Listed) -> Result<Instruction, u8> {
+fn made_of(listed: DecodedRow) -> Result<Instruction, u8> {
     made(listed.row, listed.first, listed.second, listed.addr)
 }
 
@@ -90,7 +90,7 @@ fn made(row: u8, a: u8, b: u8, addr: u16) -> Result<Instruction, u8> {
 }
 
 /// What the decoder answers for a word that is no instruction.
-const NONE: Listed = Listed { number: 3, row: 0, first: 0, second: 0, addr: 0 };
+const NONE: DecodedRow = DecodedRow { number: 3, row: 0, first: 0, second: 0, addr: 0 };
 
 /// A word through both decoders and back, and a row with operands through both
 /// encoders.
@@ -103,7 +103,7 @@ pub fn code(random: &mut Random, index: u64, tally: &mut Tally) -> Result<(), Fi
     encodes(random, tally)
 }
 
-fn decodes(word: u16, tally: &mut Tally) -> Result<Listed, Finding> {
+fn decodes(word: u16, tally: &mut Tally) -> Result<DecodedRow, Finding> {
     let listed = host::decode(word);
     let second = decode(word);
     let agree = match second {
@@ -120,11 +120,11 @@ fn decodes(word: u16, tally: &mut Tally) -> Result<Listed, Finding> {
 }
 
 /// What a word was decoded to gives that word in both encoders.
-fn comes_back(word: u16, listed: Listed, tally: &mut Tally) -> Result<(), Finding> {
-    let Listed { row, first, second, addr, .. } = listed;
+fn comes_back(word: u16, listed: DecodedRow, tally: &mut Tally) -> Result<(), Finding> {
+    let DecodedRow { row, first, second, addr, .. } = listed;
     let coded = host::encode(row, first, second, addr);
     let answer = made_of(listed).and_then(encode);
-    if coded != (Coded { number: pair::DONE, word }) || answer != Ok(word) {
+    if coded != (EncodedRow { number: pair::DONE, word }) || answer != Ok(word) {
         return Err(Finding(format!(
             "encode of {listed:?}, which is word {word:04X}\n\
              first difference: proved {coded:04X?}, second {answer:04X?}\n"
@@ -141,8 +141,8 @@ fn encodes(random: &mut Random, tally: &mut Tally) -> Result<(), Finding> {
     let (first, second, addr) = operands(random, row);
     let coded = host::encode(row, first, second, addr);
     let answer = match made(row, first, second, addr).and_then(encode) {
-        Ok(word) => Coded { number: pair::DONE, word },
-        Err(number) => Coded { number, word: 0 },
+        Ok(word) => EncodedRow { number: pair::DONE, word },
+        Err(number) => EncodedRow { number, word: 0 },
     };
     if coded != answer {
         return Err(Finding(format!(

@@ -8,7 +8,7 @@ use reference::station::{read, read_into, write, write_into};
 use reference::{Input, Station};
 
 use crate::files::first_line;
-use crate::host::{self, Counts, Output};
+use crate::host::{self, OutputReply, ReadReply};
 use crate::pair::{place, Finding};
 use crate::random::Random;
 use crate::stations::{damage, faults, good_file, spoil};
@@ -62,8 +62,8 @@ fn reads(random: &mut Random, file: &[u8], tally: &mut Tally) -> Result<(), Find
     let old = Input { pins: [OLD; 5], directions: [OLD; 5], release: OLD };
     let mut records2 = vec![old; rooms[2] / RECORD];
     let answer = match read_into(file, &mut rom2, &mut sheet2, &mut records2) {
-        Ok(c) => Counts { number: 0, words: c.words, entries: c.depths, records: c.inputs },
-        Err(number) => Counts { number, words: 0, entries: 0, records: 0 },
+        Ok(c) => ReadReply { number: 0, words: c.words, entries: c.depths, records: c.inputs },
+        Err(number) => ReadReply { number, words: 0, entries: 0, records: 0 },
     };
     let mut inputs2 = flat(&records2);
     inputs2.resize(rooms[2], OLD);
@@ -100,8 +100,8 @@ fn writes(
     let output = host::write(&station.rom, &station.depths, &inputs, &mut out);
     let written = if part { part_refused(station) } else { write_into(station, &mut out2) };
     let answer = match written {
-        Ok(length) => Output { number: 0, length },
-        Err(number) => Output { number, length: 0 },
+        Ok(length) => OutputReply { number: 0, length },
+        Err(number) => OutputReply { number, length: 0 },
     };
     let first = answers(&output, &answer).or_else(|| place("byte", &out, &out2));
     if let Some(first) = first {
@@ -130,9 +130,9 @@ fn prints(random: &mut Random, file: &[u8], tally: &mut Tally) -> Result<(), Fin
     let answer = match expected.get_mut(..text.len()) {
         Some(front) => {
             front.copy_from_slice(text.as_bytes());
-            Output { number: 0, length: text.len() }
+            OutputReply { number: 0, length: text.len() }
         }
-        None => Output { number: 25, length: 0 },
+        None => OutputReply { number: 25, length: 0 },
     };
     let output = host::transcript(file, &mut out);
     let first = answers(&output, &answer).or_else(|| place("byte", &out, &expected));

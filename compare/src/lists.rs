@@ -4,7 +4,7 @@
 use reference::verify::NEVER;
 use reference::{Input, Machine};
 
-use crate::host::Report;
+use crate::host::RunReply;
 use crate::pair::{self, Finding};
 use crate::random::Random;
 use crate::records;
@@ -105,7 +105,7 @@ impl Walk<'_> {
                 }
             }
         }
-        let expected = Report { steps, number: u8::from(!in_range) };
+        let expected = RunReply { steps, number: u8::from(!in_range) };
         let mut machine = before.clone();
         let report = pair::run(&self.case.rom, &mut machine, input, budget)?;
         tally.answer(report.number);

@@ -23,14 +23,14 @@ static int stop(const char *what, unsigned number) {
 }
 
 int main(void) {
-    pollwezen_checked verdict = pollwezen_verify(rom, WORDS, sheet, WORDS);
+    pollwezen_verdict_reply verdict = pollwezen_verify(rom, WORDS, sheet, WORDS);
     if (verdict.number != POLLWEZEN_DONE) {
         return stop("the ROM does not pass with its sheet", verdict.number);
     }
-    pollwezen_record board = pollwezen_reset();
+    pollwezen_machine board = pollwezen_reset();
     pollwezen_input input = {{0}, {15}, 0}; /* P0A is an output */
     for (int refresh = 0; refresh < 8; refresh++) {
-        pollwezen_report ran = pollwezen_run(rom, WORDS, &board, input, 5);
+        pollwezen_run_reply ran = pollwezen_run(rom, WORDS, &board, input, 5);
         if (ran.number != POLLWEZEN_DONE) {
             return stop("refused", ran.number);
         }

@@ -4,19 +4,21 @@
 
 use std::mem::{offset_of, size_of};
 
-use crate::structs::{Checked, Coded, Counts, Inputs, Listed, Output, Record, Report};
+use crate::structs::{
+    DecodedRow, EncodedRow, LentInput, LentMachine, OutputReply, ReadReply, RunReply, VerdictReply,
+};
 
 /// Two of each struct, as in crates/layout/src/lib.rt.
 #[repr(C)]
 struct Laid {
-    records: [Record; 2],
-    inputs: [Inputs; 2],
-    reports: [Report; 2],
-    checks: [Checked; 2],
-    counts: [Counts; 2],
-    outputs: [Output; 2],
-    listings: [Listed; 2],
-    codes: [Coded; 2],
+    machines: [LentMachine; 2],
+    inputs: [LentInput; 2],
+    run_replies: [RunReply; 2],
+    verdict_replies: [VerdictReply; 2],
+    read_replies: [ReadReply; 2],
+    output_replies: [OutputReply; 2],
+    decoded_rows: [DecodedRow; 2],
+    encoded_rows: [EncodedRow; 2],
 }
 
 extern "C" {
@@ -87,21 +89,21 @@ pub fn layout() -> Result<(), String> {
         return Err("a byte after the last struct was written".to_string());
     }
     let mut search = Search { bytes, missing: None };
-    look!(search, records: Record, [cells] |n, of| match n {
+    look!(search, machines: LentMachine, [cells] |n, of| match n {
         0 => 2,
         n if n + 1 == of => 3,
         _ => 1,
     });
-    look!(search, records: Record, [stack] |n, _| 5 + n);
-    look!(search, records: Record, pc 4, levels 10, skip 11, standby 12);
-    look!(search, inputs: Inputs, [pins] |n, _| 1 + n);
-    look!(search, inputs: Inputs, [directions] |n, _| 6 + n);
-    look!(search, inputs: Inputs, release 11);
-    look!(search, reports: Report, steps 1, number 2);
-    look!(search, checks: Checked, number 1, word 2, rule 3);
-    look!(search, counts: Counts, number 1, words 2, entries 3, records 4);
-    look!(search, outputs: Output, number 1, length 2);
-    look!(search, listings: Listed, number 1, row 2, first 3, second 4, addr 5);
-    look!(search, codes: Coded, number 1, word 2);
+    look!(search, machines: LentMachine, [stack] |n, _| 5 + n);
+    look!(search, machines: LentMachine, pc 4, levels 10, skip 11, standby 12);
+    look!(search, inputs: LentInput, [pins] |n, _| 1 + n);
+    look!(search, inputs: LentInput, [directions] |n, _| 6 + n);
+    look!(search, inputs: LentInput, release 11);
+    look!(search, run_replies: RunReply, steps 1, number 2);
+    look!(search, verdict_replies: VerdictReply, number 1, word 2, rule 3);
+    look!(search, read_replies: ReadReply, number 1, words 2, entries 3, records 4);
+    look!(search, output_replies: OutputReply, number 1, length 2);
+    look!(search, decoded_rows: DecodedRow, number 1, row 2, first 3, second 4, addr 5);
+    look!(search, encoded_rows: EncodedRow, number 1, word 2);
     search.missing.map_or(Ok(()), Err)
 }

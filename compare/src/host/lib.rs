@@ -5,29 +5,34 @@ mod layout;
 mod structs;
 
 use reference::{Input, Machine};
-use structs::{Inputs, Record};
+use structs::{LentInput, LentMachine};
 
 pub use layout::layout;
-pub use structs::{Checked, Coded, Counts, Listed, Output, Report};
+pub use structs::{DecodedRow, EncodedRow, OutputReply, ReadReply, RunReply, VerdictReply};
 
 extern "C" {
-    fn pollwezen_reset() -> Record;
-    fn pollwezen_step(rom: *const u16, words: usize, lent: *mut Record, input: Inputs) -> u8;
+    fn pollwezen_reset() -> LentMachine;
+    fn pollwezen_step(
+        rom: *const u16,
+        words: usize,
+        machine: *mut LentMachine,
+        input: LentInput,
+    ) -> u8;
     fn pollwezen_run(
         rom: *const u16,
         words: usize,
-        lent: *mut Record,
-        input: Inputs,
+        machine: *mut LentMachine,
+        input: LentInput,
         budget: u32,
-    ) -> Report;
+    ) -> RunReply;
     fn pollwezen_verify(
         rom: *const u16,
         words: usize,
-        depths: *const u8,
+        sheet: *const u8,
         entries: usize,
-    ) -> Checked;
-    fn pollwezen_decode(word: u16) -> Listed;
-    fn pollwezen_encode(row: u8, first: u8, second: u8, addr: u16) -> Coded;
+    ) -> VerdictReply;
+    fn pollwezen_decode(word: u16) -> DecodedRow;
+    fn pollwezen_encode(row: u8, first: u8, second: u8, addr: u16) -> EncodedRow;
     fn pollwezen_read(
         file: *const u8,
         bytes: usize,
@@ -37,7 +42,7 @@ extern "C" {
         sheet_room: usize,
         inputs: *mut u8,
         inputs_room: usize,
-    ) -> Counts;
+    ) -> ReadReply;
     fn pollwezen_write(
         rom: *const u16,
         words: usize,
@@ -47,8 +52,13 @@ extern "C" {
         input_bytes: usize,
         out: *mut u8,
         room: usize,
-    ) -> Output;
-    fn pollwezen_transcript(file: *const u8, bytes: usize, out: *mut u8, room: usize) -> Output;
+    ) -> OutputReply;
+    fn pollwezen_transcript(
+        file: *const u8,
+        bytes: usize,
+        out: *mut u8,
+        room: usize,
+    ) -> OutputReply;
 }
 
 /// The proved reset.
@@ -67,7 +77,7 @@ pub fn step(rom: &[u16], lent: &mut Machine, input: &Input) -> u8 {
 }
 
 /// The proved run.
-pub fn run(rom: &[u16], lent: &mut Machine, input: &Input, budget: u32) -> Report {
+pub fn run(rom: &[u16], lent: &mut Machine, input: &Input, budget: u32) -> RunReply {
     let mut held = record(lent);
     // SAFETY: as in `step`.
     let report =
@@ -77,25 +87,25 @@ pub fn run(rom: &[u16], lent: &mut Machine, input: &Input, budget: u32) -> Repor
 }
 
 /// The proved check.
-pub fn verify(rom: &[u16], depths: &[u8]) -> Checked {
+pub fn verify(rom: &[u16], depths: &[u8]) -> VerdictReply {
     // SAFETY: both slices give their own length.
     unsafe { pollwezen_verify(rom.as_ptr(), rom.len(), depths.as_ptr(), depths.len()) }
 }
 
 /// The proved decoder.
-pub fn decode(word: u16) -> Listed {
+pub fn decode(word: u16) -> DecodedRow {
     // SAFETY: no pointer.
     unsafe { pollwezen_decode(word) }
 }
 
 /// The proved encoder.
-pub fn encode(row: u8, first: u8, second: u8, addr: u16) -> Coded {
+pub fn encode(row: u8, first: u8, second: u8, addr: u16) -> EncodedRow {
     // SAFETY: no pointer.
     unsafe { pollwezen_encode(row, first, second, addr) }
 }
 
 /// The proved reader.
-pub fn read(file: &[u8], rom: &mut [u16], sheet: &mut [u8], inputs: &mut [u8]) -> Counts {
+pub fn read(file: &[u8], rom: &mut [u16], sheet: &mut [u8], inputs: &mut [u8]) -> ReadReply {
     // SAFETY: each slice gives its own length, and no two overlap.
     unsafe {
         pollwezen_read(
@@ -112,7 +122,7 @@ pub fn read(file: &[u8], rom: &mut [u16], sheet: &mut [u8], inputs: &mut [u8]) -
 }
 
 /// The proved writer.
-pub fn write(rom: &[u16], sheet: &[u8], inputs: &[u8], out: &mut [u8]) -> Output {
+pub fn write(rom: &[u16], sheet: &[u8], inputs: &[u8], out: &mut [u8]) -> OutputReply {
     // SAFETY: as in `read`.
     unsafe {
         pollwezen_write(
@@ -129,13 +139,13 @@ pub fn write(rom: &[u16], sheet: &[u8], inputs: &[u8], out: &mut [u8]) -> Output
 }
 
 /// The proved transcript.
-pub fn transcript(file: &[u8], out: &mut [u8]) -> Output {
+pub fn transcript(file: &[u8], out: &mut [u8]) -> OutputReply {
     // SAFETY: as in `read`.
     unsafe { pollwezen_transcript(file.as_ptr(), file.len(), out.as_mut_ptr(), out.len()) }
 }
 
-fn record(from: &Machine) -> Record {
-    Record {
+fn record(from: &Machine) -> LentMachine {
+    LentMachine {
         cells: from.cells,
         pc: from.pc,
         stack: from.stack,
@@ -145,7 +155,7 @@ fn record(from: &Machine) -> Record {
     }
 }
 
-fn machine(from: &Record) -> Machine {
+fn machine(from: &LentMachine) -> Machine {
     Machine {
         cells: from.cells,
         pc: from.pc,
@@ -156,6 +166,6 @@ fn machine(from: &Record) -> Machine {
     }
 }
 
-fn inputs(from: &Input) -> Inputs {
-    Inputs { pins: from.pins, directions: from.directions, release: from.release }
+fn inputs(from: &Input) -> LentInput {
+    LentInput { pins: from.pins, directions: from.directions, release: from.release }
 }

@@ -1,9 +1,9 @@
 //! The structs of include/pollwezen.h. `layout` holds them to the library.
 
-/// `pollwezen_record`.
+/// `pollwezen_machine`.
 #[repr(C)]
 #[derive(Clone, Copy)]
-pub struct Record {
+pub struct LentMachine {
     pub cells: [u8; 128],
     pub pc: u16,
     pub stack: [u16; 5],
@@ -15,52 +15,52 @@ pub struct Record {
 /// `pollwezen_input`.
 #[repr(C)]
 #[derive(Clone, Copy)]
-pub struct Inputs {
+pub struct LentInput {
     pub pins: [u8; 5],
     pub directions: [u8; 5],
     pub release: u8,
 }
 
-/// `pollwezen_report`: the steps that a run completed, its refusal or 0.
+/// `pollwezen_run_reply`: the steps that a run completed, its refusal or 0.
 #[repr(C)]
 #[derive(Clone, Copy, Debug, PartialEq, Eq)]
-pub struct Report {
+pub struct RunReply {
     pub steps: u32,
     pub number: u8,
 }
 
-/// `pollwezen_checked`: 0, a refusal, or 254 with the word and the rule.
+/// `pollwezen_verdict_reply`: 0, a refusal, or 254 with the word and the rule.
 #[repr(C)]
 #[derive(Clone, Copy, Debug, PartialEq, Eq)]
-pub struct Checked {
+pub struct VerdictReply {
     pub number: u8,
     pub word: u16,
     pub rule: u8,
 }
 
-/// `pollwezen_counts`: 0 with how much the reader wrote, or a refusal.
+/// `pollwezen_read_reply`: 0 with how much the reader wrote, or a refusal.
 #[repr(C)]
 #[derive(Clone, Copy, Debug, PartialEq, Eq)]
-pub struct Counts {
+pub struct ReadReply {
     pub number: u8,
     pub words: usize,
     pub entries: usize,
     pub records: usize,
 }
 
-/// `pollwezen_output`: 0 with how many bytes were written, or a refusal.
+/// `pollwezen_output_reply`: 0 with how many bytes were written, or a refusal.
 #[repr(C)]
 #[derive(Clone, Copy, Debug, PartialEq, Eq)]
-pub struct Output {
+pub struct OutputReply {
     pub number: u8,
     pub length: usize,
 }
 
-/// `pollwezen_listed`: 0 with a row of the manual's list and its operands, or
+/// `pollwezen_decoded_row`: 0 with a row of the manual's list and its operands, or
 /// refusal 3.
 #[repr(C)]
 #[derive(Clone, Copy, Debug, PartialEq, Eq)]
-pub struct Listed {
+pub struct DecodedRow {
     pub number: u8,
     pub row: u8,
     pub first: u8,
@@ -68,10 +68,10 @@ pub struct Listed {
     pub addr: u16,
 }
 
-/// `pollwezen_coded`: 0 with a word, or a refusal.
+/// `pollwezen_encoded_row`: 0 with a word, or a refusal.
 #[repr(C)]
 #[derive(Clone, Copy, Debug, PartialEq, Eq)]
-pub struct Coded {
+pub struct EncodedRow {
     pub number: u8,
     pub word: u16,
 }

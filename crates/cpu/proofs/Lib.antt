@@ -6,4 +6,3 @@ pub mod ArFits
 pub mod Turns
 pub mod Loop
 pub mod Settled
-pub mod Refused

@@ -5,8 +5,8 @@ ghost use Prim.Native.Nat.{ℕ};
 ghost use Rattle.memory.specs.Chip.{upd17132};
 ghost use Rattle.cpu.specs.Joined.{executedOf, inputAt, wholeOf};
 ghost use Rattle.cpu.specs.Execute.{executeOf};
-use control::Transfer;
 use control::Regs;
+use control::Transfer;
 use isa::FixedOp;
 use isa::Instruction;
 use machine::Input;
@@ -42,7 +42,13 @@ fn pop_ar(cells: &mut [u8; 128], stack: &mut [u16; 5], regs: Regs) -> Transfer
 }
 
 // An instruction without operand.
-fn fixed(rom: &[u16], op: FixedOp, cells: &mut [u8; 128], stack: &mut [u16; 5], regs: Regs) -> Transfer
+fn fixed(
+    rom: &[u16],
+    op: FixedOp,
+    cells: &mut [u8; 128],
+    stack: &mut [u16; 5],
+    regs: Regs,
+) -> Transfer
     ensures { λ r. ⌜ ((input : Input) → executedOf (now (cells .exit)) (now (stack .exit)) regs r ≡ executeOf upd17132 (now (rom .entry)) input (Instruction.Fixed op) (wholeOf (now (cells .entry)) (now (stack .entry)) regs)) ⌝ }
 {
     match op {

@@ -32,20 +32,6 @@ every-of f zero h = tt
 every-of f (suc n) h =
     and-both (f n) (every f n) (h n (le-refl (suc n))) (every-of f n (λ k l. h k (le-step l)))
 
--- at how many of 0 to n - 1 f fails
-abbrev pub failures : (ℕ → Bool) → ℕ → ℕ
-failures f zero = 0
-failures f (suc n) = failures f n + cond (f n) 0 1
-
-one-more : (b : Bool) (n : ℕ) (rest : Bool) → eqb n 0 ≡ rest → eqb (n + cond b 0 1) 0 ≡ (b && rest)
-one-more true n rest e = ap (λ (m : ℕ). eqb m 0) (add-zero n) ∙ e
-one-more false n rest e = ap (λ (m : ℕ). eqb m 0) (add-one n) ∙ eqb·suc-zero n
-
--- a count of the failures tells whether there is none
-pub no-failures : (f : ℕ → Bool) (n : ℕ) → eqb (failures f n) 0 ≡ every f n
-no-failures f zero = λ _. true
-no-failures f (suc n) = one-more (f n) (failures f n) (every f n) (no-failures f n)
-
 -- a test as an equation and as a type
 pub passed : {b : Bool} → b ≡ true → T b
 passed e = subst T (sym e) tt

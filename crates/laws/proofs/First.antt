@@ -15,6 +15,11 @@ module _ (f : ℕ → Bool) where
   abbrev pub Clear : ℕ → ℕ → Type 0
   Clear k j = (i : ℕ) → k ≤ i → i < j → f i ≡ true
 
+  pub clear-more : (k j : ℕ) → Clear k j → f j ≡ true → Clear k (j + 1)
+  clear-more k j c e i l u =
+      let m : i ≤ j = omega arith in
+      ⊎-elim (λ (q : i ≡ j). subst (λ (x : ℕ). f x ≡ true) (sym q) e) (λ (q : i < j). c i l q) (eq-or-lt-of-le m)
+
   pub record First (k end j : ℕ) : Type 0 where
     pub low : k ≤ j
     pub high : j ≤ end

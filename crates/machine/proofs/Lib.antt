@@ -1,3 +1,3 @@
-mod Counted
+mod Nibbles
 mod Split
 pub mod Marks

@@ -8,17 +8,15 @@ ghost use Rattle.machine.specs.FixedBits.{fixedInRange};
 ghost use Rattle.machine.specs.Ranges.{isNibble};
 use memory::Memory;
 
-// Whether every cell holds a nibble. It counts and does not stop early, so that it can be vectorised.
+// Whether every cell holds a nibble: no bit of any is above the lowest four.
 fn all_nibbles(cells: &[u8; 128]) -> bool
     ensures { λ r. ⌜ r ≡ every (isNibble (now (cells .entry))) 128 ⌝ }
 {
-    let mut failures: u8 = 0;
+    let mut bits: u8 = 0;
     for i in 0..128usize {
-        if 15 < cells[i] {
-            failures += 1;
-        }
+        bits = bits | cells[i];
     }
-    failures == 0
+    bits < 16
 }
 
 // Whether a cell holds only bits that stay.

@@ -13,19 +13,7 @@ use crate::cells;
 fn are_nibbles(xs: [u8; 5]) -> bool
     ensures { λ r. ⌜ r ≡ fiveNibbles xs ⌝ }
 {
-    if 16 <= xs[4] {
-        return false;
-    }
-    if 16 <= xs[3] {
-        return false;
-    }
-    if 16 <= xs[2] {
-        return false;
-    }
-    if 16 <= xs[1] {
-        return false;
-    }
-    xs[0] < 16
+    (xs[0] | xs[1] | xs[2] | xs[3] | xs[4]) < 16
 }
 
 // An open level holds an address, and a closed one 0.

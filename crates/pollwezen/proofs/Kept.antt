@@ -9,7 +9,7 @@ use Rattle.machine.specs.declared.Machine.{Machine}
 use Rattle.cpu.specs.Answers.{replyNumber}
 use Rattle.cpu.specs.Reply.{Reply, done, inStandby, refused, Step}
 use Rattle.cpu.specs.Step.{stepOf}
-use Rattle.cpu.proofs.Refused.{step-keeps}
+use Rattle.step_laws.proofs.Steps.{step-laws}
 use Rattle.pollwezen.specs.Lent.{lentStepOf}
 use Rattle.pollwezen.specs.declared.LentStep.{LentStep}
 
@@ -25,4 +25,4 @@ kept rom i m x e zero-not last-not =
     let s = stepOf upd17132 rom i m in
     let n : x .number ≡ replyNumber (s .reply) = ap (λ (y : LentStep). y .number) e in
     ap (λ (y : LentStep). y .machine) e
-    ∙ by-reply (s .reply) m s refl (step-keeps upd17132 rom i m) (λ z. zero-not (n ∙ z)) (λ z. last-not (n ∙ z))
+    ∙ by-reply (s .reply) m s refl (step-laws upd17132 rom i m .kept) (λ z. zero-not (n ∙ z)) (λ z. last-not (n ∙ z))

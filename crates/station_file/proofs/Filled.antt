@@ -9,7 +9,7 @@ use native.Mathlib.Omega.{arith}
 use lib.ListN.{length, drop, set, getD}
 use lib.Seq.{getD-drop}
 use Rattle.station_file.specs.Read.{overlay}
-use Rattle.station_file.specs.Inside.{words}
+use Rattle.station_file.specs.Places.{words}
 use Rattle.station_file.proofs.WordLists.{length-words, words-suc}
 use Rattle.station_file.proofs.Splices.{splice-front, splice-snoc}
 

@@ -1,7 +1,15 @@
+pub mod FileNumbers
+pub mod Readings
+pub mod Taking
+pub mod Digits
+pub mod Counted
 pub mod TwoBytes
 pub mod WordLists
 pub mod Scanned
 pub mod Splices
+pub mod Parts
+pub mod Soundness
+pub mod Overlaid
 pub mod Parsing
 pub mod Filled
 pub mod Placing

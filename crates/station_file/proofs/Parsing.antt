@@ -12,15 +12,15 @@ use lib.Seq.{drop-cons, drop-drop}
 use borrow.Author.Tests.{le-leb, lt-leb, eq-eqb, ne-eqb}
 use Rattle.station_file.specs.Reading.{Reading, got, refused, andThen, tested, number, fields}
 use Rattle.station_file.specs.Station.{Form, Station, recordBytes, romCount, sheetCount, wordField, entryField, inputField, romSection, sheetSection, inputSection, parseOf}
-use Rattle.station_file.specs.Answers.{faultNumber}
-use Rattle.station_file.specs.Inside.{words, formSection, afterForm, numberIn, NumberFits, OpeningFits, scanned, ScanFits, wordsIn, bytesIn, SectionFits, faultIn, stationIn}
-use Rattle.station_file.specs.declared.Fault.{Fault}
+use Rattle.station_file.specs.Answers.{fileNumber}
+use Rattle.station_file.specs.Places.{words, formSection, afterForm, numberIn, NumberFits, OpeningFits, scanned, ScanFits, wordsIn, bytesIn, SectionFits, refusalIn, stationIn}
+use Rattle.station_file.specs.declared.FileRefusal.{FileRefusal}
 use Rattle.station_file.specs.declared.Number.{Number}
 use Rattle.station_file.specs.declared.Number.the-variants.{Is, Early}
 use Rattle.station_file.specs.declared.Opening.{Opening}
 use Rattle.station_file.specs.declared.Opening.the-variants as opening
-use Rattle.station_file.specs.declared.Checked.{Checked}
-use Rattle.station_file.specs.declared.Checked.the-variants as checked
+use Rattle.station_file.specs.declared.Test.{Test}
+use Rattle.station_file.specs.declared.Test.the-variants as test
 use Rattle.station_file.specs.declared.Section.{Section}
 use Rattle.station_file.specs.declared.Section.the-variants as section
 use Rattle.station_file.specs.declared.Layout.the-variants as layout
@@ -86,11 +86,11 @@ module _ (file : List ℕ) (at : ℕ) (r : Number) (h : numberIn file r ≡ numb
   unfolding sheetSection sheetItems
   sheet-items n next e p = countedItems (sheetCount words₁) sheetItems file at r h n next e p
 
-  pub sheet-bad : (n next : ℕ) → r ≡ Is n next → sheetCount words₁ n ≡ true → (k : Checked) (f : Fault) → k ≡ checked.Refused f
-      → scanned file next n k ≡ fields entryField 0 n (drop next file) → refused (faultNumber f) ≡ sheetSection words₁ (drop at file)
+  pub sheet-bad : (n next : ℕ) → r ≡ Is n next → sheetCount words₁ n ≡ true → (k : Test) (f : FileRefusal) → k ≡ test.Refused f
+      → scanned file next n k ≡ fields entryField 0 n (drop next file) → refused (fileNumber f) ≡ sheetSection words₁ (drop at file)
   sheet-bad n next e p k f g s = sym (ap (scanned file next n) g) ∙ s ∙ sheet-items n next e p
 
-  pub sheet-whole : (n next : ℕ) → r ≡ Is n next → sheetCount words₁ n ≡ true → (k : Checked) → k ≡ checked.Good
+  pub sheet-whole : (n next : ℕ) → r ≡ Is n next → sheetCount words₁ n ≡ true → (k : Test) → k ≡ test.Passed
       → scanned file next n k ≡ fields entryField 0 n (drop next file)
       → got (take (1 * n) (drop next file)) (drop (next + n) file) ≡ sheetSection words₁ (drop at file)
   sheet-whole n next e p k g s = rw (one-mul n) (sym (ap (scanned file next n) g) ∙ s ∙ sheet-items n next e p)
@@ -115,17 +115,17 @@ module _ (form : Form) (two : form .countBytes ≡ 2) (file : List ℕ) (at : �
   unfolding inputSection inputItems inputLimit
   input-items n next e p = rw two (countedItems inputLimit inputItems file at r h n next e (le-leb n (form .mostInputs) p))
 
-  pub input-bad : (n next : ℕ) → r ≡ Is n next → n ≤ form .mostInputs → (k : Checked) (f : Fault) → k ≡ checked.Refused f
+  pub input-bad : (n next : ℕ) → r ≡ Is n next → n ≤ form .mostInputs → (k : Test) (f : FileRefusal) → k ≡ test.Refused f
       → scanned file next (11 * n) k ≡ fields inputField 0 (11 * n) (drop next file)
-      → refused (faultNumber f) ≡ inputSection form (drop at file)
+      → refused (fileNumber f) ≡ inputSection form (drop at file)
   input-bad n next e p k f g s = sym (ap (scanned file next (11 * n)) g) ∙ s ∙ input-items n next e p
 
-  pub input-whole : (n next : ℕ) → r ≡ Is n next → n ≤ form .mostInputs → (k : Checked) → k ≡ checked.Good
+  pub input-whole : (n next : ℕ) → r ≡ Is n next → n ≤ form .mostInputs → (k : Test) → k ≡ test.Passed
       → scanned file next (11 * n) k ≡ fields inputField 0 (11 * n) (drop next file)
       → got (take (11 * n) (drop next file)) (drop (next + 11 * n) file) ≡ inputSection form (drop at file)
   input-whole n next e p k g s = sym (ap (scanned file next (11 * n)) g) ∙ s ∙ input-items n next e p
 
-pub scan-fits : (file : List ℕ) (at n : ℕ) (k : Checked) → k ≡ checked.Good → ScanFits file at n k → at + n ≤ length file
+pub scan-fits : (file : List ℕ) (at n : ℕ) (k : Test) → k ≡ test.Passed → ScanFits file at n k → at + n ≤ length file
 scan-fits file at n k e f = rw e at f
 
 -- the form number
@@ -146,7 +146,7 @@ pub section-fits : (width : ℕ) (file : List ℕ) (r : Section) (n start next :
 section-fits width file r n start next e f = rw e at f
 
 module _ (form : Form) (file : List ℕ) (at : ℕ) (r : Section) (h : wordsIn file r ≡ romSection (drop at file)) where
-  pub rom-fails : (f g : Fault) → r ≡ section.Refused g → f ≡ faultIn r → refused (faultNumber f) ≡ afterForm form (drop at file)
+  pub rom-fails : (f g : FileRefusal) → r ≡ section.Refused g → f ≡ refusalIn r → refused (fileNumber f) ≡ afterForm form (drop at file)
   unfolding afterForm
   rom-fails f g e i = rw (sym h ∙ ap (wordsIn file) e, i, e) refl
 
@@ -154,12 +154,12 @@ module _ (form : Form) (file : List ℕ) (at : ℕ) (r : Section) (h : wordsIn f
     sheet-in : sheetSection (length (words n (drop s file))) (drop b file) ≡ bytesIn 1 file t
     sheet-in = rw (length-words n (drop s file)) (sym j)
 
-    pub sheet-fails : (f g : Fault) → t ≡ section.Refused g → f ≡ faultIn t → refused (faultNumber f) ≡ afterForm form (drop at file)
+    pub sheet-fails : (f g : FileRefusal) → t ≡ section.Refused g → f ≡ refusalIn t → refused (fileNumber f) ≡ afterForm form (drop at file)
     unfolding afterForm
     sheet-fails f g k i = rw (sym h ∙ ap (wordsIn file) e, sheet-in ∙ ap (bytesIn 1 file) k, i, k) refl
 
     module _ (m p d : ℕ) (k : t ≡ section.Good m p d) (u : Section) (l : bytesIn 11 file u ≡ inputSection form (drop d file)) where
-      pub inputs-fail : (f g : Fault) → u ≡ section.Refused g → f ≡ faultIn u → refused (faultNumber f) ≡ afterForm form (drop at file)
+      pub inputs-fail : (f g : FileRefusal) → u ≡ section.Refused g → f ≡ refusalIn u → refused (fileNumber f) ≡ afterForm form (drop at file)
       unfolding afterForm
       inputs-fail f g q i =
           rw (sym h ∙ ap (wordsIn file) e, sheet-in ∙ ap (bytesIn 1 file) k, sym l ∙ ap (bytesIn 11 file) q, i, q) refl

@@ -12,9 +12,9 @@ use borrow.Author.Tests.{le-leb, lt-leb}
 use Rattle.station_file.specs.Station.{Form, Station, form1, parseOf}
 use Rattle.station_file.specs.Read.{Buffers, overlay, readOf}
 use Rattle.station_file.specs.Answers.{buffersOf, readBy}
-use Rattle.station_file.specs.Inside.{words, splice, stationIn, LayoutFits, layoutFault}
-use Rattle.station_file.specs.declared.Fault.{Fault}
-use Rattle.station_file.specs.declared.Fault.the-variants.{Room}
+use Rattle.station_file.specs.Places.{words, splice, stationIn, LayoutFits, layoutRefusal}
+use Rattle.station_file.specs.declared.FileRefusal.{FileRefusal}
+use Rattle.station_file.specs.declared.FileRefusal.the-variants.{Room}
 use Rattle.station_file.specs.declared.Layout.{Layout}
 use Rattle.station_file.specs.declared.Layout.the-variants as layout
 use Rattle.station_file.specs.declared.Loaded.the-variants as loaded
@@ -31,9 +31,9 @@ module _ (form : Form) (q : form ≡ form1) (file : List ℕ) (l : Layout) (h : 
   parsed : parseOf form1 file ≡ stationIn file l
   parsed = sym (h ∙ ap (λ (f : Form). parseOf f file) q)
 
-  pub denies : (b : Buffers) (f g : Fault) → l ≡ layout.Refused g → f ≡ layoutFault l → readBy (loaded.Refused f) b ≡ readOf form1 file b
+  pub refuses : (b : Buffers) (f g : FileRefusal) → l ≡ layout.Refused g → f ≡ layoutRefusal l → readBy (loaded.Refused f) b ≡ readOf form1 file b
   unfolding readOf
-  denies b f g e i = rw (parsed, i, e) refl
+  refuses b f g e i = rw (parsed, i, e) refl
 
   module _ (w a e b n d : ℕ) (k : l ≡ layout.Station w a e b n d) where
     station-in : parseOf form1 file ≡ stationIn file (layout.Station w a e b n d)

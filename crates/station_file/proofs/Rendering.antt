@@ -2,7 +2,7 @@
 -- Assumes nothing.
 use mathlib.Core.Path.{_≡_, _∙_, refl, sym, ap}
 use mathlib.Core.Bool.{false}
-use mathlib.Core.List.{List, _++_, append-assoc}
+use mathlib.Core.List.{List, _++_}
 use Prim.Native.Nat.{ℕ, _+_, _*_, _/_, _<_, _≤_}
 use native.Mathlib.Omega.{arith}
 use lib.Dec.{eqb}
@@ -12,15 +12,16 @@ use borrow.Author.Tests.{le-leb, lt-leb}
 use Rattle.station_file.specs.Station as station
 use Rattle.station_file.specs.Station.{form1}
 use Rattle.station_file.specs.Read.{overlay}
-use Rattle.station_file.specs.Write.{bytesOf, wordBytes, renderOf, faultOf, writeOf}
-use Rattle.station_file.specs.Answers.{faultNumber, stationOf, writtenBy}
-use Rattle.station_file.specs.Inside.{splice, formOf, checkedNumber, CheckFits, checkedFault}
-use Rattle.station_file.specs.declared.Fault.{Fault}
-use Rattle.station_file.specs.declared.Fault.the-variants.{Form, Early, Count, Entry, After, Room}
+use Rattle.station_file.specs.Write.{bytesOf, wordBytes, renderOf, stationRefusal, writeOf}
+use Rattle.station_file.specs.Answers.{fileNumber, stationOf, writtenBy}
+use Rattle.station_file.specs.Places.{splice, formOf, testNumber, TestFits, testRefusal}
+use Rattle.station_file.specs.declared.FileRefusal.{FileRefusal}
+use Rattle.station_file.specs.declared.FileRefusal.the-variants.{Form, Early, Count, Entry, After, Room}
 use Rattle.station_file.specs.declared.Form as declared
-use Rattle.station_file.specs.declared.Checked.{Checked}
-use Rattle.station_file.specs.declared.Checked.the-variants as checked
+use Rattle.station_file.specs.declared.Test.{Test}
+use Rattle.station_file.specs.declared.Test.the-variants as test
 use Rattle.station_file.specs.declared.Written.the-variants as written
+use Rattle.station_file.proofs.Parts.{flat, length-render as written-length}
 use Rattle.station_file.proofs.Splices.{splice-join, splice-front, length-wordBytes}
 
 -- two parts written one after the other
@@ -30,9 +31,6 @@ both at xs next ys out out₁ out₂ e h p q = q ∙ ap (splice next ys) p ∙ s
 
 pub whole : (bytes : List ℕ) (at : ℕ) (out : List ℕ) → splice at (take (length bytes) (drop 0 bytes)) out ≡ splice at bytes out
 whole bytes at out = ap (λ (xs : List ℕ). splice at xs out) (take-length bytes)
-
-regroup : (a b c d e f g : List ℕ) → a ++ (b ++ c) ++ (d ++ e) ++ (f ++ g) ≡ a ++ b ++ c ++ d ++ e ++ f ++ g
-regroup a b c d e f g = simp append-assoc
 
 module _ (rom sheet inputs : List ℕ) where
   abbrev size : ℕ
@@ -61,17 +59,16 @@ module _ (rom sheet inputs : List ℕ) where
         let four = both 0 (a ++ b ++ d) (4 + 2 * length rom + 2 + length sheet) f out out₃ out₄ (omega arith) (omega arith) three s in
         four ∙ splice-front (a ++ b ++ d ++ f) out
         ∙ ap (λ (xs : List ℕ). overlay xs out)
-        (regroup a (bytesOf 2 (length rom)) (wordBytes rom) (bytesOf 2 (length sheet)) sheet (bytesOf 2 (length inputs / 11)) inputs)
+        (flat a (bytesOf 2 (length rom)) (wordBytes rom) (bytesOf 2 (length sheet)) sheet (bytesOf 2 (length inputs / 11)) inputs)
 
     length-render : length (renderOf (formOf form) (stationOf rom sheet inputs)) ≡ size
-    unfolding renderOf
-    length-render = simp (length-append, length-wordBytes) (omega arith)
+    length-render = written-length (formOf form) (stationOf rom sheet inputs)
 
-    module _ (q : formOf form ≡ form1) (k : Checked) (h : checkedNumber k ≡ faultOf (formOf form) (stationOf rom sheet inputs)) (out : List ℕ) where
-      fault : faultOf form1 (stationOf rom sheet inputs) ≡ checkedNumber k
-      fault = ap (λ (f : station.Form). faultOf f (stationOf rom sheet inputs)) (sym q) ∙ sym h
+    module _ (q : formOf form ≡ form1) (k : Test) (h : testNumber k ≡ stationRefusal (formOf form) (stationOf rom sheet inputs)) (out : List ℕ) where
+      fault : stationRefusal form1 (stationOf rom sheet inputs) ≡ testNumber k
+      fault = ap (λ (f : station.Form). stationRefusal f (stationOf rom sheet inputs)) (sym q) ∙ sym h
 
-      no-zero : (f : Fault) → eqb (faultNumber f) 0 ≡ false
+      no-zero : (f : FileRefusal) → eqb (fileNumber f) 0 ≡ false
       no-zero Form = refl
       no-zero Early = refl
       no-zero Count = refl
@@ -79,27 +76,27 @@ module _ (rom sheet inputs : List ℕ) where
       no-zero After = refl
       no-zero Room = refl
 
-      pub denies : (f g : Fault) → k ≡ checked.Refused g → f ≡ checkedFault k
+      pub refuses : (f g : FileRefusal) → k ≡ test.Refused g → f ≡ testRefusal k
           → writtenBy (written.Refused f) out ≡ writeOf form1 (stationOf rom sheet inputs) out
       unfolding writeOf
-      denies f g e i = rw (fault, i, e, no-zero g) refl
+      refuses f g e i = rw (fault, i, e, no-zero g) refl
 
-      good : k ≡ checked.Good → faultOf form1 (stationOf rom sheet inputs) ≡ 0
-      good e = fault ∙ ap checkedNumber e
+      good : k ≡ test.Passed → stationRefusal form1 (stationOf rom sheet inputs) ≡ 0
+      good e = fault ∙ ap testNumber e
 
       lengths : length (renderOf form1 (stationOf rom sheet inputs)) ≡ size
       lengths = ap (λ (f : station.Form). length (renderOf f (stationOf rom sheet inputs))) (sym q) ∙ length-render
 
-      pub full : k ≡ checked.Good → length out < size
+      pub full : k ≡ test.Passed → length out < size
           → writtenBy (written.Refused Room) out ≡ writeOf form1 (stationOf rom sheet inputs) out
       unfolding writeOf
       full e l = rw (good e, lengths, lt-leb size (length out) l) refl
 
-      pub writes : k ≡ checked.Good → size ≤ length out → (out₁ : List ℕ) → out₁ ≡ overlay (renderOf (formOf form) (stationOf rom sheet inputs)) out
+      pub writes : k ≡ test.Passed → size ≤ length out → (out₁ : List ℕ) → out₁ ≡ overlay (renderOf (formOf form) (stationOf rom sheet inputs)) out
           → writtenBy (written.Bytes size) out₁ ≡ writeOf form1 (stationOf rom sheet inputs) out
       unfolding writeOf
       writes e l out₁ o =
           rw (o ∙ ap (λ (f : station.Form). overlay (renderOf f (stationOf rom sheet inputs)) out) q, good e, lengths, le-leb size (length out) l) refl
 
-      pub small : k ≡ checked.Good → CheckFits rom sheet k → (length rom ≤ 1024) × (length sheet ≤ 1024)
+      pub small : k ≡ test.Passed → TestFits rom sheet k → (length rom ≤ 1024) × (length sheet ≤ 1024)
       small e f = rw e at f

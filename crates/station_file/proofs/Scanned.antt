@@ -11,7 +11,7 @@ use native.Mathlib.Omega.{arith}
 use lib.ListN.{length, take, drop, getD, length-drop, drop-of-length-le}
 use lib.Seq.{getD-drop, drop-drop, drop-cons, take-suc}
 use Rattle.station_file.specs.Reading.{Reading, got, refused, andThen, fields}
-use Rattle.station_file.specs.Inside.{byteField, prepend, Passed, RecordGood}
+use Rattle.station_file.specs.Places.{byteField, prepend, Passed, RecordGood}
 use Rattle.station_file.specs.Station.{inputByte}
 
 prepend-none : (r : Reading (List ℕ)) → prepend [] r ≡ r

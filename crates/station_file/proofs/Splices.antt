@@ -10,7 +10,7 @@ use lib.ListN.{length, take, drop, set, getD, length-append, length-drop, take-a
 use lib.Seq.{length-take-le, getD-drop, take-suc, take-at, drop-append-add, drop-drop, set-split, append-snoc}
 use Rattle.station_file.specs.Read.{overlay}
 use Rattle.station_file.specs.Write.{bytesOf, wordBytes}
-use Rattle.station_file.specs.Inside.{splice}
+use Rattle.station_file.specs.Places.{splice}
 
 head-length : (at : ℕ) (xs buffer : List ℕ) → at + length xs ≤ length buffer → length (take at buffer ++ xs) ≡ at + length xs
 head-length at xs buffer h =

@@ -8,7 +8,7 @@ use lib.ListN.{length, drop, getD, length-drop}
 use lib.Seq.{getD-drop, drop-drop}
 use Rattle.station_file.specs.Reading.{got, refused, fields}
 use Rattle.station_file.specs.Station.{wordField}
-use Rattle.station_file.specs.Inside.{words}
+use Rattle.station_file.specs.Places.{words}
 use Rattle.station_file.proofs.TwoBytes.{short, long}
 
 pub length-words : (n : ℕ) (xs : List ℕ) → length (words n xs) ≡ n

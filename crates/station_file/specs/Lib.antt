@@ -2,5 +2,6 @@ pub mod Reading
 pub mod Station
 pub mod Read
 pub mod Write
+pub mod Parts
 pub mod Answers
-pub mod Inside
+pub mod Places

@@ -6,7 +6,8 @@ use mathlib.Core.List.{List, _++_}
 use Prim.Native.Nat.{ℕ, _/_}
 use lib.Dec.{leb}
 use lib.ListN.{length, drop}
-use Rattle.station_file.specs.Reading.{Reading, got, refused}
+use Rattle.station_file.specs.Reading as reading
+use Rattle.station_file.specs.Reading.{Reading}
 use Rattle.station_file.specs.Station.{Form, Station, recordBytes, parseOf}
 
 -- "Places past what is written stay"
@@ -22,7 +23,7 @@ pub record Buffers : Type 0 where
 -- a station with the numbers of its words, sheet entries and input records, or a refusal
 pub data Reply : Type 0 where
   station : ℕ → ℕ → ℕ → Reply
-  denied : ℕ → Reply
+  refused : ℕ → Reply
 
 pub record Read : Type 0 where
   pub reply : Reply
@@ -34,16 +35,17 @@ fitsIn s b = leb (length (s .rom)) (length (b .rom)) && (leb (length (s .sheet))
 abbrev pub filled : Station → Buffers → Buffers
 filled s b = record { rom = overlay (s .rom) (b .rom); sheet = overlay (s .sheet) (b .sheet); inputs = overlay (s .inputs) (b .inputs) }
 
-abbrev pub refusing : ℕ → Buffers → Read
-refusing n b = record { reply = denied n; buffers = b }
+-- "a refused file yields no station and writes nothing"
+abbrev pub unread : ℕ → Buffers → Read
+unread n b = record { reply = refused n; buffers = b }
 
 -- refusal 25: "the lent output is too short"
 abbrev pub placed : Reading Station → Buffers → Read
-placed (got s rest) b =
+placed (reading.got s rest) b =
     cond (fitsIn s b)
     (record { reply = station (length (s .rom)) (length (s .sheet)) (length (s .inputs) / recordBytes); buffers = filled s b })
-    (refusing 25 b)
-placed (refused n) b = refusing n b
+    (unread 25 b)
+placed (reading.refused n) b = unread n b
 
 unfoldable pub readOf : Form → List ℕ → Buffers → Read
 readOf form file b = placed (parseOf form file) b

@@ -2,7 +2,7 @@
 -- Assumes nothing.
 use mathlib.Core.Bool.{Bool, _&&_, _||_, cond}
 use mathlib.Core.List.{List, [], _∷_}
-use Prim.Native.Nat.{ℕ, _*_, _%_}
+use Prim.Native.Nat.{ℕ, _+_, _*_, _%_}
 use lib.Dec.{eqb, ltb, leb}
 use lib.ListN.{length}
 use Rattle.sheet.specs.Entry.{proper}
@@ -67,6 +67,10 @@ unfoldable pub inputSection : Form → List ℕ → Reading (List ℕ)
 inputSection form xs =
     andThen (tested (λ (n : ℕ). leb n (form .mostInputs)) 22 (number (form .countBytes) xs))
     (λ (n : ℕ) (rest : List ℕ). fields inputField 0 (recordBytes * n) rest)
+
+-- the longest file of form 1: the form number, and three full sections, each after its count
+abbrev pub longest : ℕ
+longest = 2 + (2 + 2 * 1024) + (2 + 1024) + (2 + recordBytes * form1 .mostInputs)
 
 -- refusal 24: "bytes after the end"
 abbrev pub ended : Station → List ℕ → Reading Station

@@ -1,10 +1,11 @@
 -- What the writer answers, and what it leaves in the lent buffer: document 01, "The writer first tests its station in file
 -- order (22, 23), then room (25), and when refused writes nothing".
 -- Assumes nothing.
+use mathlib.Core.Path.{_≡_}
 use mathlib.Core.Bool.{Bool, true, _&&_, cond}
 use mathlib.Core.List.{List, [], _∷_, _++_}
 use Prim.Native.Nat.{ℕ, zero, suc, _/_, _%_, _^_}
-use lib.Dec.{eqb, leb}
+use lib.Dec.{eqb, leb, ltb}
 use lib.ListN.{length}
 use Rattle.station_file.specs.Read.{overlay}
 use Rattle.station_file.specs.Station.{entryByte, Form, Station, recordBytes, inputByte, romCount, sheetCount}
@@ -35,12 +36,16 @@ abbrev pub everyAt : (ℕ → ℕ → Bool) → ℕ → List ℕ → Bool
 everyAt ok k [] = true
 everyAt ok k (x ∷ xs) = ok k x && everyAt ok (suc k) xs
 
+-- every element is small: bytes, and words, as a file and a ROM have them
+abbrev pub below : ℕ → List ℕ → Type 0
+below n xs = everyAt (λ (k : ℕ) (x : ℕ). ltb x n) 0 xs ≡ true
+
 abbrev pub inputCount : Form → List ℕ → Bool
 inputCount form xs = eqb (length xs % recordBytes) 0 && leb (length xs / recordBytes) (form .mostInputs)
 
--- the station's first fault in file order, or 0
-unfoldable pub faultOf : Form → Station → ℕ
-faultOf form s =
+-- the number of the station's first refusal in file order, or 0
+unfoldable pub stationRefusal : Form → Station → ℕ
+stationRefusal form s =
     cond (romCount (length (s .rom)))
     (cond (sheetCount (length (s .rom)) (length (s .sheet)))
     (cond (everyAt entryByte 0 (s .sheet))
@@ -50,19 +55,20 @@ faultOf form s =
 -- the bytes written, or a refusal
 pub data Reply : Type 0 where
   wrote : ℕ → Reply
-  denied : ℕ → Reply
+  refused : ℕ → Reply
 
-pub record Written : Type 0 where
+pub record Write : Type 0 where
   pub reply : Reply
   pub out : List ℕ
 
-abbrev pub refusing : ℕ → List ℕ → Written
-refusing n out = record { reply = denied n; out = out }
+-- "when refused writes nothing"
+abbrev pub unwritten : ℕ → List ℕ → Write
+unwritten n out = record { reply = refused n; out = out }
 
-unfoldable pub writeOf : Form → Station → List ℕ → Written
+unfoldable pub writeOf : Form → Station → List ℕ → Write
 writeOf form s out =
-    cond (eqb (faultOf form s) 0)
+    cond (eqb (stationRefusal form s) 0)
     (cond (leb (length (renderOf form s)) (length out))
     (record { reply = wrote (length (renderOf form s)); out = overlay (renderOf form s) out })
-    (refusing 25 out))
-    (refusing (faultOf form s) out)
+    (unwritten 25 out))
+    (unwritten (stationRefusal form s) out)

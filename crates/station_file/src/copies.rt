@@ -4,9 +4,9 @@ ghost use Prim.Native.Nat.{_+_, _*_, _≤_};
 ghost use lib.ListN.{length, take, drop};
 ghost use Rattle.station_file.specs.Read.{overlay};
 ghost use Rattle.station_file.specs.Write.{wordBytes};
-ghost use Rattle.station_file.specs.Inside.{words, splice};
-use crate::numbers::put_number;
-use crate::numbers::word;
+ghost use Rattle.station_file.specs.Places.{words, splice};
+use crate::two_bytes::put_number;
+use crate::two_bytes::word;
 
 // So many bytes of a list, from a place of it to a place of another.
 pub fn copy_bytes(bytes: &[u8], from: usize, count: usize, out: &mut [u8], at: usize)

@@ -1,23 +1,41 @@
 // The station file: its reader and its writer.
+ghost use mathlib.Core.Path.{_≡_};
+ghost use Rattle.station_file.specs.Answers.{fileNumber};
+
 mod copies;
 mod limits;
-mod numbers;
 mod reader;
 mod scan;
 mod sections;
+mod two_bytes;
 mod writer;
 
 pub use reader::read;
 pub use writer::write;
 
 // Why a file or a station is refused: refusals 20 to 25, in their order.
-pub enum Fault {
+pub enum FileRefusal {
     Form,
     Early,
     Count,
     Entry,
     After,
     Room,
+}
+
+impl FileRefusal {
+    pub fn number(self) -> u8
+        ensures { λ r. ⌜ r ≡ fileNumber self ⌝ }
+    {
+        match self {
+            FileRefusal::Form => 20,
+            FileRefusal::Early => 21,
+            FileRefusal::Count => 22,
+            FileRefusal::Entry => 23,
+            FileRefusal::After => 24,
+            FileRefusal::Room => 25,
+        }
+    }
 }
 
 // What the reader answers: how much it wrote to each buffer, or why nothing.
@@ -27,13 +45,13 @@ pub enum Loaded {
         entries: usize,
         records: usize,
     },
-    Refused(Fault),
+    Refused(FileRefusal),
 }
 
 // What the writer answers: how many bytes it wrote, or why none.
 pub enum Written {
     Bytes(usize),
-    Refused(Fault),
+    Refused(FileRefusal),
 }
 
 // What differs between the forms of the file that have two-byte counts.
@@ -51,19 +69,19 @@ enum Number {
 // The place after the form number.
 enum Opening {
     At(usize),
-    Refused(Fault),
+    Refused(FileRefusal),
 }
 
-// Whether every byte of a part is in range.
-enum Checked {
-    Good,
-    Refused(Fault),
+// Whether a test passes.
+enum Test {
+    Passed,
+    Refused(FileRefusal),
 }
 
 // A section's count, the place of its first element and the place after its last.
 enum Section {
     Good(usize, usize, usize),
-    Refused(Fault),
+    Refused(FileRefusal),
 }
 
 // The count and the start of each section of a good file.
@@ -76,5 +94,5 @@ enum Layout {
         records: usize,
         inputs_at: usize,
     },
-    Refused(Fault),
+    Refused(FileRefusal),
 }

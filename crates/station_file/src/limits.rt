@@ -1,7 +1,7 @@
 // What a form's file may hold.
 ghost use mathlib.Core.Path.{_≡_};
 ghost use Rattle.station_file.specs.Station.{form1, romCount, sheetCount};
-ghost use Rattle.station_file.specs.Inside.{formOf};
+ghost use Rattle.station_file.specs.Places.{formOf};
 use crate::Form;
 
 pub fn form_1() -> Form

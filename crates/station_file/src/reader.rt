@@ -3,8 +3,8 @@ ghost use mathlib.Core.Path.{_≡_};
 ghost use Rattle.station_file.specs.Station.{form1};
 ghost use Rattle.station_file.specs.Read.{readOf};
 ghost use Rattle.station_file.specs.Answers.{buffersOf, readBy};
-ghost use Rattle.station_file.specs.Inside.{layoutFault};
-use crate::Fault;
+ghost use Rattle.station_file.specs.Places.{layoutRefusal};
+use crate::FileRefusal;
 use crate::Layout;
 use crate::Loaded;
 use crate::copies::copy_bytes;
@@ -12,8 +12,8 @@ use crate::copies::read_words;
 use crate::limits::form_1;
 use crate::sections::parse;
 
-fn layout_fault(layout: Layout) -> Fault
-    ensures { λ r. ⌜ r ≡ layoutFault layout ⌝ }
+fn layout_refusal(layout: Layout) -> FileRefusal
+    ensures { λ r. ⌜ r ≡ layoutRefusal layout ⌝ }
 {
     match layout {
         Layout::Station {
@@ -23,8 +23,8 @@ fn layout_fault(layout: Layout) -> Fault
             sheet_at: _,
             records: _,
             inputs_at: _,
-        } => Fault::Form,
-        Layout::Refused(fault) => fault,
+        } => FileRefusal::Form,
+        Layout::Refused(refusal) => refusal,
     }
 }
 
@@ -43,17 +43,17 @@ pub fn read(file: &[u8], rom: &mut [u16], sheet: &mut [u8], inputs: &mut [u8]) -
         inputs_at,
     } = layout
     else {
-        return Loaded::Refused(layout_fault(layout));
+        return Loaded::Refused(layout_refusal(layout));
     };
     let bytes = 11 * records;
     if rom.len() < words {
-        return Loaded::Refused(Fault::Room);
+        return Loaded::Refused(FileRefusal::Room);
     }
     if sheet.len() < entries {
-        return Loaded::Refused(Fault::Room);
+        return Loaded::Refused(FileRefusal::Room);
     }
     if inputs.len() < bytes {
-        return Loaded::Refused(Fault::Room);
+        return Loaded::Refused(FileRefusal::Room);
     }
     read_words(file, rom_at, words, rom);
     copy_bytes(file, sheet_at, entries, sheet, 0);

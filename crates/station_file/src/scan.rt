@@ -6,9 +6,9 @@ ghost use Prim.Native.Nat.{_+_, _≤_};
 ghost use lib.ListN.{length, drop};
 ghost use Rattle.station_file.specs.Reading.{fields};
 ghost use Rattle.station_file.specs.Station.{inputByte, entryField, inputField};
-ghost use Rattle.station_file.specs.Inside.{scanned, ScanFits, Passed, RecordGood};
-use crate::Checked;
-use crate::Fault;
+ghost use Rattle.station_file.specs.Places.{scanned, ScanFits, Passed, RecordGood};
+use crate::FileRefusal;
+use crate::Test;
 use sheet::proper;
 
 // The highest level of a sheet in a file.
@@ -24,7 +24,7 @@ fn proper_input(index: usize, byte: u8) -> bool
     byte < 16
 }
 
-pub fn entries(bytes: &[u8], at: usize, count: usize) -> Checked
+pub fn entries(bytes: &[u8], at: usize, count: usize) -> Test
     requires { ⌜ at ≤ length (now bytes) ⌝ }
     ensures { λ r. ⌜ scanned (now (bytes .entry)) at count r ≡ fields entryField 0 count (drop at (now (bytes .entry))) ⌝ }
     ensures { λ r. ⌜ ScanFits (now (bytes .entry)) at count r ⌝ }
@@ -33,15 +33,15 @@ pub fn entries(bytes: &[u8], at: usize, count: usize) -> Checked
     let mut next = at;
     while index < count {
         if bytes.len() <= next {
-            return Checked::Refused(Fault::Early);
+            return Test::Refused(FileRefusal::Early);
         }
         if !proper(MOST_LEVEL, bytes[next]) {
-            return Checked::Refused(Fault::Entry);
+            return Test::Refused(FileRefusal::Entry);
         }
         index += 1;
         next += 1;
     }
-    Checked::Good
+    Test::Passed
 }
 
 // Ten nibbles and a release bit.
@@ -80,7 +80,7 @@ fn good_records(bytes: &[u8], at: usize, count: usize) -> usize
 }
 
 // The good records first, then byte by byte from the first that is not.
-pub fn inputs(bytes: &[u8], at: usize, count: usize) -> Checked
+pub fn inputs(bytes: &[u8], at: usize, count: usize) -> Test
     requires { ⌜ at ≤ length (now bytes) ⌝ }
     ensures { λ r. ⌜ scanned (now (bytes .entry)) at count r ≡ fields inputField 0 count (drop at (now (bytes .entry))) ⌝ }
     ensures { λ r. ⌜ ScanFits (now (bytes .entry)) at count r ⌝ }
@@ -89,13 +89,13 @@ pub fn inputs(bytes: &[u8], at: usize, count: usize) -> Checked
     let mut next = at + index;
     while index < count {
         if bytes.len() <= next {
-            return Checked::Refused(Fault::Early);
+            return Test::Refused(FileRefusal::Early);
         }
         if !proper_input(index, bytes[next]) {
-            return Checked::Refused(Fault::Entry);
+            return Test::Refused(FileRefusal::Entry);
         }
         index += 1;
         next += 1;
     }
-    Checked::Good
+    Test::Passed
 }

@@ -3,28 +3,28 @@ ghost use mathlib.Core.Path.{_≡_};
 ghost use Prim.Native.Nat.{_≤_};
 ghost use lib.ListN.{length, drop};
 ghost use Rattle.station_file.specs.Station.{romSection, sheetSection, inputSection, parseOf};
-ghost use Rattle.station_file.specs.Inside.{formOf, formSection, afterForm, opened, OpeningFits, wordsIn, bytesIn, SectionFits, faultIn, stationIn, LayoutFits};
-use crate::Checked;
-use crate::Fault;
+ghost use Rattle.station_file.specs.Places.{formOf, formSection, afterForm, opened, OpeningFits, wordsIn, bytesIn, SectionFits, refusalIn, stationIn, LayoutFits};
+use crate::FileRefusal;
 use crate::Form;
 use crate::Layout;
 use crate::Number;
 use crate::Opening;
 use crate::Section;
+use crate::Test;
 use crate::limits::rom_count;
 use crate::limits::sheet_count;
-use crate::numbers::read_number;
 use crate::scan;
+use crate::two_bytes::read_number;
 
 fn form_section(file: &[u8], form: Form) -> Opening
     ensures { λ r. ⌜ opened form (now (file .entry)) r ≡ formSection (formOf form) (now (file .entry)) ⌝ }
     ensures { λ r. ⌜ OpeningFits (now (file .entry)) r ⌝ }
 {
     let Number::Is(value, next) = read_number(file, 0) else {
-        return Opening::Refused(Fault::Early);
+        return Opening::Refused(FileRefusal::Early);
     };
     if value != form.number {
-        return Opening::Refused(Fault::Form);
+        return Opening::Refused(FileRefusal::Form);
     }
     Opening::At(next)
 }
@@ -35,13 +35,13 @@ fn rom_section(file: &[u8], at: usize) -> Section
     ensures { λ r. ⌜ SectionFits 2 (now (file .entry)) r ⌝ }
 {
     let Number::Is(count, start) = read_number(file, at) else {
-        return Section::Refused(Fault::Early);
+        return Section::Refused(FileRefusal::Early);
     };
     if !rom_count(count) {
-        return Section::Refused(Fault::Count);
+        return Section::Refused(FileRefusal::Count);
     }
     if file.len() - start < 2 * count {
-        return Section::Refused(Fault::Early);
+        return Section::Refused(FileRefusal::Early);
     }
     Section::Good(count, start, start + 2 * count)
 }
@@ -52,14 +52,14 @@ fn sheet_section(file: &[u8], at: usize, words: usize) -> Section
     ensures { λ r. ⌜ SectionFits 1 (now (file .entry)) r ⌝ }
 {
     let Number::Is(count, start) = read_number(file, at) else {
-        return Section::Refused(Fault::Early);
+        return Section::Refused(FileRefusal::Early);
     };
     if !sheet_count(words, count) {
-        return Section::Refused(Fault::Count);
+        return Section::Refused(FileRefusal::Count);
     }
     match scan::entries(file, start, count) {
-        Checked::Refused(fault) => Section::Refused(fault),
-        Checked::Good => Section::Good(count, start, start + count),
+        Test::Refused(refusal) => Section::Refused(refusal),
+        Test::Passed => Section::Good(count, start, start + count),
     }
 }
 
@@ -69,23 +69,23 @@ fn input_section(file: &[u8], at: usize, form: Form) -> Section
     ensures { λ r. ⌜ SectionFits 11 (now (file .entry)) r ⌝ }
 {
     let Number::Is(count, start) = read_number(file, at) else {
-        return Section::Refused(Fault::Early);
+        return Section::Refused(FileRefusal::Early);
     };
     if form.most < count {
-        return Section::Refused(Fault::Count);
+        return Section::Refused(FileRefusal::Count);
     }
     match scan::inputs(file, start, 11 * count) {
-        Checked::Refused(fault) => Section::Refused(fault),
-        Checked::Good => Section::Good(count, start, start + 11 * count),
+        Test::Refused(refusal) => Section::Refused(refusal),
+        Test::Passed => Section::Good(count, start, start + 11 * count),
     }
 }
 
-fn section_fault(section: Section) -> Fault
-    ensures { λ r. ⌜ r ≡ faultIn section ⌝ }
+fn section_refusal(section: Section) -> FileRefusal
+    ensures { λ r. ⌜ r ≡ refusalIn section ⌝ }
 {
     match section {
-        Section::Good(_, _, _) => Fault::Form,
-        Section::Refused(fault) => fault,
+        Section::Good(_, _, _) => FileRefusal::Form,
+        Section::Refused(refusal) => refusal,
     }
 }
 
@@ -96,18 +96,18 @@ fn after_form(file: &[u8], at: usize, form: Form) -> Layout
 {
     let rom = rom_section(file, at);
     let Section::Good(words, rom_at, sheet_from) = rom else {
-        return Layout::Refused(section_fault(rom));
+        return Layout::Refused(section_refusal(rom));
     };
     let sheet = sheet_section(file, sheet_from, words);
     let Section::Good(entries, sheet_at, inputs_from) = sheet else {
-        return Layout::Refused(section_fault(sheet));
+        return Layout::Refused(section_refusal(sheet));
     };
     let inputs = input_section(file, inputs_from, form);
     let Section::Good(records, inputs_at, end) = inputs else {
-        return Layout::Refused(section_fault(inputs));
+        return Layout::Refused(section_refusal(inputs));
     };
     if end < file.len() {
-        return Layout::Refused(Fault::After);
+        return Layout::Refused(FileRefusal::After);
     }
     Layout::Station {
         words,
@@ -119,13 +119,13 @@ fn after_form(file: &[u8], at: usize, form: Form) -> Layout
     }
 }
 
-// Where each section of a file lies, or the file's first fault.
+// Where each section of a file lies, or the file's first refusal.
 pub fn parse(file: &[u8], form: Form) -> Layout
     ensures { λ r. ⌜ stationIn (now (file .entry)) r ≡ parseOf (formOf form) (now (file .entry)) ⌝ }
     ensures { λ r. ⌜ LayoutFits (now (file .entry)) r ⌝ }
 {
     match form_section(file, form) {
-        Opening::Refused(fault) => Layout::Refused(fault),
+        Opening::Refused(refusal) => Layout::Refused(refusal),
         Opening::At(at) => after_form(file, at, form),
     }
 }

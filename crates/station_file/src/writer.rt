@@ -5,45 +5,45 @@ ghost use Prim.Native.Nat.{_+_, _*_, _≤_};
 ghost use lib.ListN.{length};
 ghost use Rattle.station_file.specs.Station.{form1};
 ghost use Rattle.station_file.specs.Read.{overlay};
-ghost use Rattle.station_file.specs.Write.{bytesOf, wordBytes, renderOf, faultOf, writeOf};
+ghost use Rattle.station_file.specs.Write.{bytesOf, wordBytes, renderOf, stationRefusal, writeOf};
 ghost use Rattle.station_file.specs.Answers.{stationOf, writtenBy};
-ghost use Rattle.station_file.specs.Inside.{formOf, splice, checkedNumber, CheckFits, checkedFault};
-use crate::Checked;
-use crate::Fault;
+ghost use Rattle.station_file.specs.Places.{formOf, splice, testNumber, TestFits, testRefusal};
+use crate::FileRefusal;
 use crate::Form;
+use crate::Test;
 use crate::Written;
 use crate::copies::copy_bytes;
 use crate::copies::put_words;
 use crate::limits::form_1;
 use crate::limits::rom_count;
 use crate::limits::sheet_count;
-use crate::numbers::put_number;
 use crate::scan;
+use crate::two_bytes::put_number;
 
-// The station's first fault, in the file's order.
-fn check(rom: &[u16], sheet: &[u8], inputs: &[u8], form: Form) -> Checked
-    ensures { λ r. ⌜ checkedNumber r ≡ faultOf (formOf form) (stationOf (now (rom .entry)) (now (sheet .entry)) (now (inputs .entry))) ⌝ }
-    ensures { λ r. ⌜ CheckFits (now (rom .entry)) (now (sheet .entry)) r ⌝ }
+// The station's first refusal, in the file's order.
+fn check(rom: &[u16], sheet: &[u8], inputs: &[u8], form: Form) -> Test
+    ensures { λ r. ⌜ testNumber r ≡ stationRefusal (formOf form) (stationOf (now (rom .entry)) (now (sheet .entry)) (now (inputs .entry))) ⌝ }
+    ensures { λ r. ⌜ TestFits (now (rom .entry)) (now (sheet .entry)) r ⌝ }
 {
     if !rom_count(rom.len()) {
-        return Checked::Refused(Fault::Count);
+        return Test::Refused(FileRefusal::Count);
     }
     if !sheet_count(rom.len(), sheet.len()) {
-        return Checked::Refused(Fault::Count);
+        return Test::Refused(FileRefusal::Count);
     }
-    let Checked::Good = scan::entries(sheet, 0, sheet.len()) else {
-        return Checked::Refused(Fault::Entry);
+    let Test::Passed = scan::entries(sheet, 0, sheet.len()) else {
+        return Test::Refused(FileRefusal::Entry);
     };
     if inputs.len() % 11 != 0 {
-        return Checked::Refused(Fault::Count);
+        return Test::Refused(FileRefusal::Count);
     }
     if form.most < inputs.len() / 11 {
-        return Checked::Refused(Fault::Count);
+        return Test::Refused(FileRefusal::Count);
     }
-    let Checked::Good = scan::inputs(inputs, 0, inputs.len()) else {
-        return Checked::Refused(Fault::Entry);
+    let Test::Passed = scan::inputs(inputs, 0, inputs.len()) else {
+        return Test::Refused(FileRefusal::Entry);
     };
-    Checked::Good
+    Test::Passed
 }
 
 // The ROM section.
@@ -77,12 +77,12 @@ fn put_sections(rom: &[u16], sheet: &[u8], inputs: &[u8], form: Form, out: &mut 
     put_bytes(inputs.len() / 11, inputs, out, inputs_at);
 }
 
-fn checked_fault(checked: Checked) -> Fault
-    ensures { λ r. ⌜ r ≡ checkedFault checked ⌝ }
+fn test_refusal(checked: Test) -> FileRefusal
+    ensures { λ r. ⌜ r ≡ testRefusal checked ⌝ }
 {
     match checked {
-        Checked::Good => Fault::Form,
-        Checked::Refused(fault) => fault,
+        Test::Passed => FileRefusal::Form,
+        Test::Refused(refusal) => refusal,
     }
 }
 
@@ -93,12 +93,12 @@ pub fn write(rom: &[u16], sheet: &[u8], inputs: &[u8], out: &mut [u8]) -> Writte
 {
     let form = form_1();
     let checked = check(rom, sheet, inputs, form);
-    let Checked::Good = checked else {
-        return Written::Refused(checked_fault(checked));
+    let Test::Passed = checked else {
+        return Written::Refused(test_refusal(checked));
     };
     let size = 8 + 2 * rom.len() + sheet.len() + inputs.len();
     if out.len() < size {
-        return Written::Refused(Fault::Room);
+        return Written::Refused(FileRefusal::Room);
     }
     put_sections(rom, sheet, inputs, form, out);
     Written::Bytes(size)

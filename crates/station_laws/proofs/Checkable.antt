@@ -1,7 +1,7 @@
 -- The check of a station that was read, from the counts that the reader takes.
 -- Assumes nothing.
 use mathlib.Core.Path.{_≡_, refl}
-use mathlib.Core.Bool.{Bool, true, false, cond, _||_}
+use mathlib.Core.Bool.{Bool, true, false, cond, _||_, false≢true}
 use mathlib.Core.List.{List}
 use mathlib.Core.Logic.{_⊎_, inl, inr}
 use Prim.Native.Nat.{ℕ}
@@ -11,10 +11,10 @@ use lib.Dec.{eqb, ltb}
 use lib.ListN.{length}
 use Rattle.memory.specs.Chip.{upd17132}
 use Rattle.machine.specs.Ranges.{romInRange}
-use Rattle.station_file.specs.Station.{romCount}
+use Rattle.station_file.specs.Station.{form1, romCount}
+use Rattle.station_file.proofs.Parts.{taken-apart}
 use Rattle.verifier.specs.Verdict.{pass, fail, refused, ruled, lowestWord, lowestRule, verifyOf}
 use Rattle.station_laws.specs.Checkable.{Checkable}
-use Rattle.station_laws.proofs.Sizes.{counts}
 
 not-refused : (b : Bool) (w r n : ℕ) → cond b (fail w r) pass ≡ refused n → ⊥
 not-refused true w r n e = let z : _≡_ {A = ℕ} 0 1 = cc in omega arith
@@ -31,9 +31,9 @@ module _ (rom sheet : List ℕ) where
       → (length sheet ≡ 0) ⊎ ((n : ℕ) → verifyOf upd17132 rom sheet ≡ refused n → ⊥)
   either true b p q e r = inl (eqb-true (length sheet) 0 p)
   either false true p q e r = inr (answered r q)
-  either false false p q e r = absurd (let z : _≡_ {A = ℕ} 0 1 = cc in omega arith)
+  either false false p q e r = absurd (false≢true e)
 
 pub checkable : Checkable
-checkable xs s rest h =
-    let c = counts xs s rest h in
-    either (s .rom) (s .sheet) (eqb (length (s .sheet)) 0) (eqb (length (s .sheet)) (length (s .rom))) refl refl (c .sheet) (c .rom)
+checkable xs s rest e =
+    let g = taken-apart form1 xs s rest e .sound in
+    either (s .rom) (s .sheet) (eqb (length (s .sheet)) 0) (eqb (length (s .sheet)) (length (s .rom))) refl refl (g .sheet) (g .words)

@@ -1,12 +1,7 @@
-pub mod Sizes
-pub mod Readings
-pub mod Bytes
-pub mod Fields
-pub mod SectionLaws
-pub mod Whole
-pub mod Faults
+pub mod Back
 pub mod RoundTrip
 pub mod ReadWrite
+pub mod Sizes
 pub mod Checkable
-pub mod Faithful
 pub mod Longer
+pub mod Faithful

@@ -8,8 +8,7 @@ use Prim.Native.Nat.{ℕ, _*_, _^_, _≤_}
 use lib.ListN.{length, take}
 use Rattle.station_file.specs.Read.{Buffers, station, overlay, fitsIn, filled, readOf}
 use Rattle.station_file.specs.Station.{Form, Station, recordBytes}
-use Rattle.station_file.specs.Write.{records, wrote, writeOf}
-use Rattle.station_laws.specs.RoundTrip.{below}
+use Rattle.station_file.specs.Write.{below, records, wrote, writeOf}
 
 -- the station at the front of the reader's buffers
 abbrev pub front : ℕ → ℕ → ℕ → Buffers → Station

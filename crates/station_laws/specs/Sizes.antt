@@ -1,18 +1,17 @@
--- How much a good file of form 1 holds, and how long it is: buffers of these sizes are never too short for one. The
--- last number is 2 + 2 + 2,048 + 2 + 1,024 + 2 + 45,045.
+-- How much a good file of form 1 holds, and how long it is: buffers of these sizes are never too short for one.
 -- Assumes nothing.
 use mathlib.Core.Path.{_≡_}
 use mathlib.Core.List.{List}
 use Prim.Native.Nat.{ℕ, _≤_}
 use lib.ListN.{length}
 use Rattle.station_file.specs.Reading.{got}
-use Rattle.station_file.specs.Station.{Station, form1, parseOf}
+use Rattle.station_file.specs.Station.{Station, form1, longest, parseOf}
 
 pub record Small (xs : List ℕ) (s : Station) : Type 0 where
   pub rom : length (s .rom) ≤ 1024
   pub sheet : length (s .sheet) ≤ 1024
   pub inputs : length (s .inputs) ≤ 45045
-  pub file : length xs ≤ 48125
+  pub file : length xs ≤ longest
 
 abbrev pub Sizes : Type 0
 Sizes = (xs : List ℕ) (s : Station) (rest : List ℕ) → parseOf form1 xs ≡ got s rest → Small xs s

@@ -1,12 +1,13 @@
--- An instruction depends on no cell but those that it reads.
+-- An instruction depends on no cell but those that it goes by.
 -- Assumes nothing.
-use mathlib.Core.Path.{_≡_, _∙_, ap, ap₂, refl}
-use mathlib.Core.Bool.{not}
+use mathlib.Core.Path.{_≡_, _∙_, ap, ap₂, refl, sym}
+use mathlib.Core.Bool.{Bool, true, false, not, cond}
 use mathlib.Core.List.{List}
 use Prim.Native.Nat.{ℕ, _+_, _*_, _/_, _%_}
 use lib.Bits.{bitAnd}
 use lib.Dec.{eqb}
-use Rattle.alu.specs.Results.{skipsOf as conditionOf}
+use lib.ListN.{getD}
+use Rattle.alu.specs.Results.{operateOf, conditionOf}
 use Rattle.alu.specs.declared.Outcome.{Outcome}
 use Rattle.isa.specs.declared.AluOp.{AluOp}
 use Rattle.isa.specs.declared.AluOp.the-variants.{Add, AddC, Sub, SubC, Or, And, Xor}
@@ -15,178 +16,201 @@ use Rattle.isa.specs.declared.SkipOp.the-variants.{Skt, Skf, Ske, Skne, Skge, S
 use Rattle.isa.specs.declared.FixedOp.the-variants.{IncAr, IncIx, Movt, PushAr, PopAr, BrAr, CallAr, Ret, Retsk, Reti, Ei, Di, Nop}
 use Rattle.isa.specs.declared.Instruction.{Instruction}
 use Rattle.isa.specs.declared.Instruction.the-variants.{AluRegister, AluImmediate, Skip, Rorc, Ld, St, MovToIndirect, MovFromIndirect, MovImmediate, Peek, Poke, Get, Put, Br, Call, Stop, Halt, Fixed}
-use Rattle.registers.specs.Address.{rowOf, ixOf, addressOf, registerOf, indirectOf}
+use Rattle.memory.specs.Address.{rowOf, ixOf, addressOf, registerOf, indirectOf}
 use Rattle.memory.specs.Cells.{cellAt, isSet}
 use Rattle.memory.specs.Chip.{Chip}
 use Rattle.memory.specs.Names.{IXH, IXM, IXL, RPL, PSW, CMP, CY, Z, BCD}
 use Rattle.memory.specs.Read.{readOf, portOf}
-use Rattle.registers.specs.Registers.{arOf}
-use Rattle.data.specs.Data.{Data, flagsAfter, arithmeticWrites, resultWrites, rotateWrites, skipWrites, aluWrites, writesOf, readsOf, skipsOf}
-use Rattle.step_laws.specs.ReadLaw.{implied, AgreeAt, withOthers, ReadLaw}
+use Rattle.memory.specs.Registers.{arOf}
+use Rattle.machine.specs.Parts.{cellsOf, withCells}
+use Rattle.machine.specs.declared.Control.{Control}
+use Rattle.machine.specs.declared.Input.{Input}
+use Rattle.machine.specs.declared.Machine.{Machine}
+use Rattle.control.specs.Control.{Transfer, controlOf, topOf}
+use Rattle.control.specs.Flow.{flowOf}
+use Rattle.operations.specs.Data.{Data, dataAt, readAt}
+use Rattle.operations.specs.Operands.{Operand, none, direct, register, indirect, ar, impliedByAlu, impliedBySkip, operandsOf, addressIn, addressesOf}
+use Rattle.operations.specs.Writes.{flagsAfter, arithmeticWrites, resultWrites, rotateWrites, skipWrites, aluWrites, transferWrites, writesAt, writesOf, holdsAt, holdsOf}
+use Rattle.operations.specs.declared.Addresses.{Addresses}
+use Rattle.cpu.specs.Execute.{dataOf, pastTable, transferBy, executeOf}
+use Rattle.cpu.specs.Reply.{Reply, done, refused, completedStep, refusedStep}
+use Rattle.step_laws.specs.ReadLaw.{addressedBy, ReadsResult, alu-r, alu-m, rorc, AgreeAt, ReadLaw}
 
 module _ (c o : List ℕ) where
-  set-same : (at f : ℕ) → cellAt c at ≡ cellAt o at → isSet c at f ≡ isSet o at f
+  abbrev Agrees : ℕ → Type 0
+  Agrees at = cellAt c at ≡ cellAt o at
+
+  set-same : (at f : ℕ) → Agrees at → isSet c at f ≡ isSet o at f
   unfolding isSet
   set-same at f e = ap (λ (x : ℕ). not (eqb (bitAnd x f) 0)) e
 
-  -- the implied cells
-  module _ (h : AgreeAt implied c o) where
-    abbrev psw : cellAt c PSW ≡ cellAt o PSW
-    psw = h .1 .1 .1 .1 .1 .1 .1 .1 .0
+  ar-same : AgreeAt ar c o → arOf c ≡ arOf o
+  unfolding arOf
+  ar-same h = rw (h .0, h .1 .0, h .1 .1 .0, h .1 .1 .1 .0)
 
-    rpl : cellAt c RPL ≡ cellAt o RPL
-    rpl = h .1 .1 .1 .1 .1 .1 .1 .0
+  row-same : Agrees IXM → rowOf c ≡ rowOf o
+  row-same e = ap (λ (x : ℕ). x % 8) e
 
-    ixl : cellAt c IXL ≡ cellAt o IXL
-    ixl = h .1 .1 .1 .1 .1 .1 .0
+  ix-same : Agrees IXM → Agrees IXL → ixOf c ≡ ixOf o
+  unfolding ixOf
+  ix-same e f = ap₂ (λ (r x : ℕ). r * 16 + x % 16) (row-same e) f
 
-    ixm : cellAt c IXM ≡ cellAt o IXM
-    ixm = h .1 .1 .1 .1 .1 .0
+  address-same : (m : ℕ) → Agrees PSW → Agrees IXM → Agrees IXL → addressOf c m ≡ addressOf o m
+  unfolding addressOf
+  address-same m p e f = rw (set-same PSW _ p, ix-same e f)
 
-    ixh : cellAt c IXH ≡ cellAt o IXH
-    ixh = h .1 .1 .1 .1 .0
+  register-same : (r : ℕ) → Agrees RPL → registerOf c r ≡ registerOf o r
+  unfolding registerOf
+  register-same r e = ap (λ (x : ℕ). x % 16 / 2 * 16 + r % 16) e
 
-    row : rowOf c ≡ rowOf o
-    row = ap (λ (x : ℕ). x % 8) ixm
+  indirect-same : (m x y : ℕ) → Agrees IXH → Agrees IXM → addressOf c m ≡ addressOf o m → x ≡ y → indirectOf c m x ≡ indirectOf o m y
+  unfolding indirectOf
+  indirect-same m x y h e a f = rw (set-same IXH _ h, row-same e, a, f)
 
-    ix : ixOf c ≡ ixOf o
-    unfolding ixOf
-    ix = ap₂ (λ (r x : ℕ). r * 16 + x % 16) row ixl
+  flags-same : (r : Outcome) → Agrees PSW → flagsAfter c r ≡ flagsAfter o r
+  unfolding flagsAfter
+  flags-same r p = rw (set-same PSW CMP p, set-same PSW Z p, p)
 
-    ar : arOf c ≡ arOf o
-    unfolding arOf
-    ar = rw (h .0, h .1 .0, h .1 .1 .0, h .1 .1 .1 .0)
+  arithmetic-same : (at : ℕ) (r : Outcome) → Agrees PSW → arithmeticWrites c at r ≡ arithmeticWrites o at r
+  unfolding arithmeticWrites
+  arithmetic-same at r p = rw (set-same PSW _ p, flags-same r p)
 
-    m-same : (m : ℕ) → addressOf c m ≡ addressOf o m
-    unfolding addressOf
-    m-same m = rw (set-same PSW _ psw, ix)
+  rotate-same : (at : ℕ) (r : Outcome) → Agrees PSW → rotateWrites c at r ≡ rotateWrites o at r
+  unfolding rotateWrites
+  rotate-same at r p = rw p
 
-    r-same : (r : ℕ) → registerOf c r ≡ registerOf o r
-    unfolding registerOf
-    r-same r = ap (λ (x : ℕ). x % 16 / 2 * 16 + r % 16) rpl
+  skip-same : (op : SkipOp) → AgreeAt (impliedBySkip op) c o → skipWrites c op ≡ skipWrites o op
+  unfolding skipWrites
+  skip-same Skt h = rw (h .0)
+  skip-same Skf h = rw (h .0)
+  skip-same Ske h = refl
+  skip-same Skne h = refl
+  skip-same Skge h = refl
+  skip-same Sklt h = refl
 
-    pointer-same : (m x y : ℕ) → x ≡ y → indirectOf c m x ≡ indirectOf o m y
-    unfolding indirectOf
-    pointer-same m x y e = rw (set-same IXH _ ixh, row, m-same m, e)
+-- the same pins and directions, and other cells
+module _ (chip : Chip) (pins directions c o : List ℕ) where
+  abbrev d : Data
+  d = dataAt c pins directions
 
-    flags-same : (r : Outcome) → flagsAfter c r ≡ flagsAfter o r
-    unfolding flagsAfter
-    flags-same r = rw (set-same PSW CMP psw, set-same PSW Z psw, psw)
-
-    arithmetic-same : (at : ℕ) (r : Outcome) → arithmeticWrites c at r ≡ arithmeticWrites o at r
-    unfolding arithmeticWrites
-    arithmetic-same at r = rw (set-same PSW _ psw, flags-same r)
-
-    result-same : (op : AluOp) (at : ℕ) (r : Outcome) → resultWrites c op at r ≡ resultWrites o op at r
-    unfolding resultWrites
-    result-same Add at r = arithmetic-same at r
-    result-same AddC at r = arithmetic-same at r
-    result-same Sub at r = arithmetic-same at r
-    result-same SubC at r = arithmetic-same at r
-    result-same Or at r = refl
-    result-same And at r = refl
-    result-same Xor at r = refl
-
-    rotate-same : (at : ℕ) (r : Outcome) → rotateWrites c at r ≡ rotateWrites o at r
-    unfolding rotateWrites
-    rotate-same at r = rw psw
-
-    test-same : (op : SkipOp) → skipWrites c op ≡ skipWrites o op
-    unfolding skipWrites
-    test-same Skt = rw psw
-    test-same Skf = rw psw
-    test-same Ske = refl
-    test-same Skne = refl
-    test-same Skge = refl
-    test-same Sklt = refl
-
--- from data to the same data with other cells
-module _ (chip : Chip) (d : Data) (others : List ℕ) (h : AgreeAt implied (d .cells) others) where
   abbrev e : Data
-  e = withOthers d others
+  e = dataAt o pins directions
 
-  abbrev c : List ℕ
-  c = d .cells
-
-  abbrev read : List ℕ → ℕ → ℕ
-  read cells at = readOf chip cells (d .pins) (d .directions) at
-
-  read-same : (at : ℕ) → cellAt c at ≡ cellAt others at → read c at ≡ read others at
+  read-same : (at : ℕ) → Agrees c o at → readAt chip d at ≡ readAt chip e at
   unfolding readOf portOf
   read-same at x = rw x
 
-  -- what stands at m, at r and at @r
-  read-m : (m : ℕ) → cellAt c (addressOf c m) ≡ cellAt others (addressOf c m) → read c (addressOf c m) ≡ read others (addressOf others m)
-  read-m m x = read-same (addressOf c m) x ∙ ap (read others) (m-same c others h m)
+  -- an operand stands at the same address
+  operand-same : (w : Operand) → AgreeAt (addressedBy chip d w) c o → addressIn chip d w ≡ addressIn chip e w
+  unfolding addressIn
+  operand-same none h = refl
+  operand-same (direct m) h = address-same c o m (h .0) (h .1 .0) (h .1 .1 .0)
+  operand-same (register r) h = register-same c o r (h .0)
+  operand-same (indirect m r) h =
+      let column = read-same (registerOf c r) (h .1 .1 .1 .1 .1 .0) ∙ ap (readAt chip e) (register-same c o r (h .1 .1 .1 .1 .0)) in
+      indirect-same c o m _ _ (h .1 .0) (h .1 .1 .0) (address-same c o m (h .0) (h .1 .1 .0) (h .1 .1 .1 .0)) column
 
-  read-r : (r : ℕ) → cellAt c (registerOf c r) ≡ cellAt others (registerOf c r) → read c (registerOf c r) ≡ read others (registerOf others r)
-  read-r r x = read-same (registerOf c r) x ∙ ap (read others) (r-same c others h r)
+  -- an operation on what stands at an address
+  operated : (op : AluOp) (at b b' : ℕ) → readAt chip d at ≡ readAt chip e at → b ≡ b' → Agrees c o PSW → Agrees c o RPL
+      → arithmeticWrites c at (operateOf op (isSet c RPL BCD) (readAt chip d at) b (isSet c PSW CY))
+      ≡ arithmeticWrites o at (operateOf op (isSet o RPL BCD) (readAt chip e at) b' (isSet o PSW CY))
+  operated op at b b' x y p r = rw (set-same c o RPL BCD r, set-same c o PSW CY p, x, y) (arithmetic-same c o at _ p)
 
-  alu-same : (op : AluOp) (at at' b b' : ℕ) → at ≡ at' → read c at ≡ read others at' → b ≡ b' → aluWrites chip d op at b ≡ aluWrites chip e op at' b'
-  unfolding aluWrites
-  alu-same op at at' b b' x y z =
-      rw (set-same c others RPL BCD (rpl c others h), set-same c others PSW CY (psw c others h), y, x, z) (result-same c others h op at' _)
+  alu-same : (op : AluOp) (at b b' : ℕ) → readAt chip d at ≡ readAt chip e at → b ≡ b' → AgreeAt (impliedByAlu op) c o
+      → aluWrites chip d op at b ≡ aluWrites chip e op at b'
+  unfolding aluWrites resultWrites operateOf
+  alu-same Add at b b' x y h = operated Add at b b' x y (h .0) (h .1 .0)
+  alu-same AddC at b b' x y h = operated AddC at b b' x y (h .0) (h .1 .0)
+  alu-same Sub at b b' x y h = operated Sub at b b' x y (h .0) (h .1 .0)
+  alu-same SubC at b b' x y h = operated SubC at b b' x y (h .0) (h .1 .0)
+  alu-same Or at b b' x y h = rw (x, y)
+  alu-same And at b b' x y h = rw (x, y)
+  alu-same Xor at b b' x y h = rw (x, y)
 
-  pub writes-same : (i : Instruction) → AgreeAt (readsOf chip d i) c others → (top word : ℕ) → writesOf chip d i top word ≡ writesOf chip e i top word
-  unfolding writesOf readsOf
-  writes-same (AluRegister op r m) a top word =
-      alu-same op (registerOf c r) (registerOf others r) (read c (addressOf c m)) (read others (addressOf others m)) (r-same c others h r)
-      (read-r r (a .0)) (read-m m (a .1 .0))
-  writes-same (AluImmediate op m n4) a top word =
-      alu-same op (addressOf c m) (addressOf others m) n4 n4 (m-same c others h m) (read-m m (a .0)) refl
-  writes-same (Skip op m n4) a top word = test-same c others h op
-  writes-same (Rorc r) a top word =
-      rw (set-same c others PSW CY (psw c others h), read-r r (a .0), r-same c others h r) (rotate-same c others h (registerOf others r) _)
-  writes-same (Ld r m) a top word = rw (r-same c others h r, read-m m (a .0))
-  writes-same (St m r) a top word = rw (m-same c others h m, read-r r (a .0))
-  writes-same (MovToIndirect r m) a top word =
-      rw (pointer-same c others h m (read c (registerOf c r)) (read others (registerOf others r)) (read-r r (a .0)), read-m m (a .1 .0))
-  writes-same (MovFromIndirect m r) a top word =
-      let p = pointer-same c others h m (read c (registerOf c r)) (read others (registerOf others r)) (read-r r (a .0)) in
-      rw (read-same (indirectOf c m (read c (registerOf c r))) (a .1 .0), p, m-same c others h m)
-  writes-same (MovImmediate m n4) a top word = rw (m-same c others h m)
-  writes-same (Peek rf) a top word = refl
-  writes-same (Poke rf) a top word = refl
-  writes-same (Get p) a top word = refl
-  writes-same (Put p) a top word = refl
-  writes-same (Br addr) a top word = refl
-  writes-same (Call addr) a top word = refl
-  writes-same (Stop s) a top word = refl
-  writes-same (Halt s) a top word = refl
-  writes-same (Fixed IncAr) a top word = rw (ar c others h)
-  writes-same (Fixed IncIx) a top word = rw (ix c others h, ixh c others h)
-  writes-same (Fixed Movt) a top word = refl
-  writes-same (Fixed PushAr) a top word = refl
-  writes-same (Fixed PopAr) a top word = refl
-  writes-same (Fixed BrAr) a top word = refl
-  writes-same (Fixed CallAr) a top word = refl
-  writes-same (Fixed Ret) a top word = refl
-  writes-same (Fixed Retsk) a top word = refl
-  writes-same (Fixed Reti) a top word = refl
-  writes-same (Fixed Ei) a top word = refl
-  writes-same (Fixed Di) a top word = refl
-  writes-same (Fixed Nop) a top word = refl
+  -- by addresses at which both hold the same
+  module _ (rom : List ℕ) (control : Control) (a : Addresses) (top : ℕ) (from : readAt chip d (a .from) ≡ readAt chip e (a .from)) where
+    -- the writes, the condition, where control goes, and refusal 8
+    abbrev Alike : Instruction → Type 0
+    Alike i =
+        (writesAt chip d a i top (getD rom (arOf c) 0) ≡ writesAt chip e a i top (getD rom (arOf o) 0))
+        × ((holdsAt chip d a i ≡ holdsAt chip e a i)
+        × (((holds : Bool) → controlOf chip (flowOf i) holds (arOf c) control ≡ controlOf chip (flowOf i) holds (arOf o) control)
+        × (pastTable rom (arOf c) (flowOf i) ≡ pastTable rom (arOf o) (flowOf i))))
 
-  pub skip-same : (i : Instruction) → AgreeAt (readsOf chip d i) c others → skipsOf chip d i ≡ skipsOf chip e i
-  unfolding skipsOf readsOf
-  skip-same (AluRegister op r m) a = refl
-  skip-same (AluImmediate op m n4) a = refl
-  skip-same (Skip op m n4) a = ap (λ (x : ℕ). conditionOf op x n4) (read-m m (a .0))
-  skip-same (Rorc r) a = refl
-  skip-same (Ld r m) a = refl
-  skip-same (St m r) a = refl
-  skip-same (MovToIndirect r m) a = refl
-  skip-same (MovFromIndirect m r) a = refl
-  skip-same (MovImmediate m n4) a = refl
-  skip-same (Peek rf) a = refl
-  skip-same (Poke rf) a = refl
-  skip-same (Get p) a = refl
-  skip-same (Put p) a = refl
-  skip-same (Br addr) a = refl
-  skip-same (Call addr) a = refl
-  skip-same (Stop s) a = refl
-  skip-same (Halt s) a = refl
-  skip-same (Fixed op) a = refl
+    -- an instruction that has no skip and does not go by AR
+    plain : {A B C : Type 0} {w x : A} {p : B} {q : Bool → C} {r : Bool} → w ≡ x → (w ≡ x) × ((p ≡ p) × (((b : Bool) → q b ≡ q b) × (r ≡ r)))
+    plain w = (w, (refl, (λ b. refl, refl)))
 
-pub read-law : (chip : Chip) → ReadLaw chip
-read-law chip i d others h a = record { writes = writes-same chip d others h i a; skip = skip-same chip d others h i a }
+    alike : (i : Instruction) → (ReadsResult i → readAt chip d (a .to) ≡ readAt chip e (a .to)) → AgreeAt (operandsOf i .implied) c o → Alike i
+    unfolding writesAt holdsAt controlOf pastTable transferWrites
+    alike (AluRegister op r m) to h = plain (alu-same op (a .to) _ _ (to (alu-r op r m)) from h)
+    alike (AluImmediate op m n4) to h = plain (alu-same op (a .to) n4 n4 (to (alu-m op m n4)) refl h)
+    alike (Skip op m n4) to h = (skip-same c o op h, (ap (λ (x : ℕ). conditionOf op x n4) from, (λ b. refl, refl)))
+    alike (Rorc r) to h = plain (rw (set-same c o PSW CY (h .0), to (rorc r)) (rotate-same c o (a .to) _ (h .0)))
+    alike (Ld r m) to h = plain (rw from)
+    alike (St m r) to h = plain (rw from)
+    alike (MovToIndirect r m) to h = plain (rw from)
+    alike (MovFromIndirect m r) to h = plain (rw from)
+    alike (MovImmediate m n4) to h = plain refl
+    alike (Peek rf) to h = plain refl
+    alike (Poke rf) to h = plain refl
+    alike (Get p) to h = plain refl
+    alike (Put p) to h = plain refl
+    alike (Br addr) to h = plain refl
+    alike (Call addr) to h = plain refl
+    alike (Stop s) to h = plain refl
+    alike (Halt s) to h = plain refl
+    alike (Fixed IncAr) to h = plain (rw (ar-same c o h))
+    alike (Fixed IncIx) to h = plain (rw (ix-same c o (h .1 .0) (h .1 .1 .0), h .0))
+    alike (Fixed Movt) to h = rw (ar-same c o h) (plain refl)
+    alike (Fixed PushAr) to h = rw (ar-same c o h) (plain refl)
+    alike (Fixed PopAr) to h = plain refl
+    alike (Fixed BrAr) to h = rw (ar-same c o h) (plain refl)
+    alike (Fixed CallAr) to h = rw (ar-same c o h) (plain refl)
+    alike (Fixed Ret) to h = plain refl
+    alike (Fixed Retsk) to h = plain refl
+    alike (Fixed Reti) to h = plain refl
+    alike (Fixed Ei) to h = plain refl
+    alike (Fixed Di) to h = plain refl
+    alike (Fixed Nop) to h = plain refl
+
+  addresses-same : (i : Instruction) → AgreeAt (addressedBy chip d (operandsOf i .to)) c o → AgreeAt (addressedBy chip d (operandsOf i .from)) c o
+      → addressesOf chip d i ≡ addressesOf chip e i
+  unfolding addressesOf
+  addresses-same i t f = rw (operand-same (operandsOf i .to) t, operand-same (operandsOf i .from) f)
+
+-- what an instruction answers, by its refusal and by refusal 8
+abbrev answerBy : ℕ → Bool → Reply
+answerBy n past = cond (eqb n 0) (cond past (refused 8) done) (refused n)
+
+answered : (b past : Bool) (n : ℕ) (m next : Machine)
+    → cond b (cond past (refusedStep 8 m) (completedStep next)) (refusedStep n m) .reply ≡ cond b (cond past (refused 8) done) (refused n)
+answered true true n m next = refl
+answered true false n m next = refl
+answered false past n m next = refl
+
+module _ (chip : Chip) (rom : List ℕ) (input : Input) where
+  replied : (i : Instruction) (m : Machine)
+      → executeOf chip rom input i m .reply ≡ answerBy (transferBy chip rom input i m .refusal) (pastTable rom (arOf (cellsOf m)) (flowOf i))
+  unfolding executeOf
+  replied i m = answered (eqb (transferBy chip rom input i m .refusal) 0) (pastTable rom (arOf (cellsOf m)) (flowOf i)) _ m _
+
+  pub read-law : ReadLaw chip rom input
+  unfolding addressesOf writesOf holdsOf transferBy
+  read-law i m others h =
+      let d = dataOf m input in
+      let f = dataOf (withCells others m) input in
+      let x = addressesOf chip d i in
+      let a = addresses-same chip (input .pins) (input .directions) (cellsOf m) others i (h .to) (h .from) in
+      let reads = read-same chip (input .pins) (input .directions) (cellsOf m) others in
+      let g = alike chip (input .pins) (input .directions) (cellsOf m) others rom (m .control) x (topOf (m .control))
+      (reads (x .from) (h .source .0)) i (λ y. reads (x .to) (h .result y .0)) (h .implied) in
+      let holds : holdsOf chip d i ≡ holdsOf chip f i = g .1 .0 ∙ ap (λ (y : Addresses). holdsAt chip f y i) a in
+      let transfer : transferBy chip rom input i m ≡ transferBy chip rom input i (withCells others m)
+      = g .1 .1 .0 (holdsOf chip d i) ∙ ap (λ (b : Bool). controlOf chip (flowOf i) b (arOf others) (m .control)) holds in
+      record {
+        writes = g .0 ∙ ap (λ (y : Addresses). writesAt chip f y i (topOf (m .control)) (getD rom (arOf others) 0)) a;
+        holds = holds;
+        transfer = transfer;
+        reply = replied i m ∙ ap₂ answerBy (ap (λ (t : Transfer). t .refusal) transfer) (g .1 .1 .1) ∙ sym (replied i (withCells others m));
+      }

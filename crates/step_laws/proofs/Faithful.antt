@@ -1,64 +1,49 @@
--- Different answers differ in document 01's numbers.
+-- Different answers have different numbers: from a number the answer is found again.
 -- Assumes nothing.
-use mathlib.Core.Path.{_≡_, _∙_, refl, ap, sym}
-use mathlib.Core.List.{[], _∷_}
-use Prim.Native.Nat.{ℕ, _-_}
-use native.Mathlib.Omega.{arith}
+use mathlib.Core.Path.{_≡_, refl}
+use mathlib.Core.List.{[], _∷_, map}
+use mathlib.Mathlib.Logic.Function.Defs.{LeftInverse, LeftInverse·injective}
+use Prim.Native.Nat.{ℕ}
 use lib.ListN.{getD}
 use Rattle.machine.specs.Refusals.{numberOf}
-use Rattle.cpu.specs.Answers.{replyOf, endOf}
-use Rattle.step_laws.specs.Faithful.{Faithful}
+use Rattle.machine.specs.declared.Refusal.{Refusal}
+use Rattle.machine.specs.declared.Refusal.the-variants.{OutOfRange, PastRom, NoInstruction, Unsupported, BadTarget, StackFull, StackEmpty, PastTable}
+use Rattle.cpu.specs.Answers.{replyOf, replyNumber, endOf}
 use Rattle.cpu.specs.declared.Answer.{Answer}
 use Rattle.cpu.specs.declared.Answer.the-variants.{Done, Standby, Refused}
-use Rattle.cpu.specs.declared.End.{End}
 use Rattle.cpu.specs.declared.End.the-variants as end
-use Rattle.machine.specs.declared.Refusal.{Refusal}
-use Rattle.machine.specs.declared.Refusal.the-variants.{OutOfRange, PastRom, NoInstruction, NotInBase, BadTarget, StackFull, StackEmpty, PastTable}
+use Rattle.step_laws.specs.Faithful.{Faithful}
 
--- the refusal with a number
-back : ℕ → Refusal
-back n = getD (OutOfRange ∷ PastRom ∷ NoInstruction ∷ NotInBase ∷ BadTarget ∷ StackFull ∷ StackEmpty ∷ PastTable ∷ []) (n - 1) OutOfRange
+-- what stands for 0, then a refusal for each number, then what stands for every other
+abbrev found : {A : Type 0} → A → (Refusal → A) → A → ℕ → A
+found zero refuse other n =
+    getD
+    (zero ∷ map refuse (OutOfRange ∷ PastRom ∷ NoInstruction ∷ Unsupported ∷ BadTarget ∷ StackFull ∷ StackEmpty ∷ PastTable ∷ [])) n other
 
-there-and-back : (r : Refusal) → back (numberOf r) ≡ r
-unfolding back
-there-and-back OutOfRange = refl
-there-and-back PastRom = refl
-there-and-back NoInstruction = refl
-there-and-back NotInBase = refl
-there-and-back BadTarget = refl
-there-and-back StackFull = refl
-there-and-back StackEmpty = refl
-there-and-back PastTable = refl
+refusal-found : {A : Type 0} (zero other : A) (refuse : Refusal → A) (r : Refusal) → found zero refuse other (numberOf r) ≡ refuse r
+refusal-found zero other refuse OutOfRange = refl
+refusal-found zero other refuse PastRom = refl
+refusal-found zero other refuse NoInstruction = refl
+refusal-found zero other refuse Unsupported = refl
+refusal-found zero other refuse BadTarget = refl
+refusal-found zero other refuse StackFull = refl
+refusal-found zero other refuse StackEmpty = refl
+refusal-found zero other refuse PastTable = refl
 
-numbers : (a b : Refusal) → numberOf a ≡ numberOf b → a ≡ b
-numbers a b e = sym (there-and-back a) ∙ ap back e ∙ there-and-back b
+abbrev number : Answer → ℕ
+number a = replyNumber (replyOf a)
 
-replies : (a b : Answer) → replyOf a ≡ replyOf b → a ≡ b
-replies Done Done e = refl
-replies Done Standby e = absurd (let z : _≡_ {A = ℕ} 0 1 = cc in omega arith)
-replies Done (Refused s) e = absurd (let z : _≡_ {A = ℕ} 0 1 = cc in omega arith)
-replies Standby Done e = absurd (let z : _≡_ {A = ℕ} 0 1 = cc in omega arith)
-replies Standby Standby e = refl
-replies Standby (Refused s) e = absurd (let z : _≡_ {A = ℕ} 0 1 = cc in omega arith)
-replies (Refused r) Done e = absurd (let z : _≡_ {A = ℕ} 0 1 = cc in omega arith)
-replies (Refused r) Standby e = absurd (let z : _≡_ {A = ℕ} 0 1 = cc in omega arith)
-replies (Refused r) (Refused s) e = ap Refused (numbers r s (cc))
+reply-found : LeftInverse (found Done Refused Standby) number
+reply-found Done = refl
+reply-found Standby = refl
+reply-found (Refused r) = refusal-found Done Standby Refused r
 
-not-zero : (r : Refusal) → numberOf r ≡ 0 → ⊥
-not-zero OutOfRange e = omega arith
-not-zero PastRom e = omega arith
-not-zero NoInstruction e = omega arith
-not-zero NotInBase e = omega arith
-not-zero BadTarget e = omega arith
-not-zero StackFull e = omega arith
-not-zero StackEmpty e = omega arith
-not-zero PastTable e = omega arith
-
-ends : (a b : End) → endOf a ≡ endOf b → a ≡ b
-ends end.Completed end.Completed e = refl
-ends end.Completed (end.Refused s) e = absurd (not-zero s (sym e))
-ends (end.Refused r) end.Completed e = absurd (not-zero r e)
-ends (end.Refused r) (end.Refused s) e = ap end.Refused (numbers r s e)
+end-found : LeftInverse (found end.Completed end.Refused end.Completed) endOf
+end-found end.Completed = refl
+end-found (end.Refused r) = refusal-found end.Completed end.Completed end.Refused r
 
 pub faithful : Faithful
-faithful = record { replies = replies; ends = ends }
+faithful = record {
+  replies = LeftInverse·injective (found Done Refused Standby) number reply-found;
+  ends = LeftInverse·injective (found end.Completed end.Refused end.Completed) endOf end-found;
+}

@@ -1,6 +1,8 @@
-pub mod Numbers
-pub mod Written
 pub mod Ranges
+pub mod Steps
+pub mod Splits
 pub mod Runs
-pub mod Depends
+pub mod Computed
 pub mod Faithful
+pub mod Written
+pub mod Depends

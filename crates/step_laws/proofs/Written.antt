@@ -1,109 +1,135 @@
 -- The cells of writesOf are those of document 02, E7.
 -- Assumes nothing.
-use mathlib.Core.Path.{_≡_, _∙_, ap, refl}
-use mathlib.Core.Bool.{Bool, true, false, _||_, cond}
-use mathlib.Core.List.{List, [], _∷_, map}
-use Prim.Native.Nat.{ℕ}
-use lib.Dec.{eqb}
-use lib.ListN.{getD}
-use Rattle.alu.specs.declared.Outcome.{Outcome}
+use mathlib.Core.Path.{_≡_, _∙_, ap, refl, sym}
+use mathlib.Core.Bool.{Bool, true, false, not, _&&_, _||_, cond, or-false, or-self, Bool·beq, false≢true}
+use mathlib.Core.List.{List, [], _∷_}
+use Prim.Native.Nat.{ℕ, _<_}
+use native.Mathlib.Omega.{arith}
+use borrow.Author.Tests.{ne-eqb, eqb-true}
+use lib.Dec.{T, eqb}
 use Rattle.isa.specs.declared.AluOp.{AluOp}
 use Rattle.isa.specs.declared.AluOp.the-variants.{Add, AddC, Sub, SubC, Or, And, Xor}
-use Rattle.isa.specs.declared.SkipOp.{SkipOp}
 use Rattle.isa.specs.declared.SkipOp.the-variants.{Skt, Skf, Ske, Skne, Skge, Sklt}
 use Rattle.isa.specs.declared.FixedOp.the-variants.{IncAr, IncIx, Movt, PushAr, PopAr, BrAr, CallAr, Ret, Retsk, Reti, Ei, Di, Nop}
+use Rattle.isa.specs.declared.Instruction.{Instruction}
 use Rattle.isa.specs.declared.Instruction.the-variants.{AluRegister, AluImmediate, Skip, Rorc, Ld, St, MovToIndirect, MovFromIndirect, MovImmediate, Peek, Poke, Get, Put, Br, Call, Stop, Halt, Fixed}
+use Rattle.alu.specs.declared.Outcome.{Outcome}
+use Rattle.laws.specs.Every.{every}
+use Rattle.laws.proofs.Every.{every-at}
 use Rattle.memory.specs.Cells.{isSet}
 use Rattle.memory.specs.Chip.{Chip}
-use Rattle.memory.specs.Names.{PSW, CMP}
-use Rattle.registers.specs.Registers.{arOf}
-use Rattle.memory.specs.Write.{Write, touches}
-use Rattle.memory.proofs.Writes.{untouched}
-use Rattle.control.specs.Control.{top}
-use Rattle.data.specs.Data.{Data, arithmeticWrites, resultWrites, rotateWrites, skipWrites, aluWrites, writesOf}
-use Rattle.machine.specs.Parts.{cellsOf}
-use Rattle.execution.specs.Execute.{dataOf, writtenOf}
-use Rattle.step_laws.specs.WrittenCells.{withFlags, arithmetic, operated, tested, writtenCells, WrittenCells, among, Frame}
+use Rattle.memory.specs.Names.{AR3, AR0, DBF3, DBF0, IXH, IXL, PSW, CMP}
+use Rattle.memory.specs.Registers.{arWrites, bufferWrites, incrementIx}
+use Rattle.memory.specs.Write.{_↤_, touches}
+use Rattle.operations.specs.Data.{Data}
+use Rattle.operations.specs.Operands.{addressIn, addressesOf, noCell}
+use Rattle.operations.specs.Writes.{arithmeticWrites, resultWrites, rotateWrites, skipWrites, aluWrites, transferWrites, writesAt, writesOf}
+use Rattle.step_laws.specs.WrittenCells.{isArithmetic, fromTo, isResult, isFlags, Named, alu-r, alu-m, rorc, skt, skf, inc-ar, pop-ar, inc-ix, movt, WrittenCells}
 
-abbrev ats : List Write → List ℕ
-ats ws = map (λ (w : Write). w .at) ws
+-- two tests that agree on every cell
+agree : (f g : ℕ → Bool) → T (every (λ (k : ℕ). Bool·beq (f k) (g k)) 128) → (k : ℕ) → k < 128 → f k ≡ g k
+agree f g t k h = same (f k) (g k) (every-at (λ (j : ℕ). Bool·beq (f j) (g j)) 128 t k h)
+  where
+    same : (a b : Bool) → T (Bool·beq a b) → a ≡ b
+    same true true u = refl
+    same true false u = absurd u
+    same false true u = absurd u
+    same false false u = refl
 
--- a test that picks a list of writes picks their cells
-picked : (b : Bool) (x y : List Write) (p q : List ℕ) → ats x ≡ p → ats y ≡ q → ats (cond b x y) ≡ cond b p q
-picked true x y p q e f = e
-picked false x y p q e f = f
+module _ (at k v w x : ℕ) where
+  -- a result that goes to 7FH itself, and one that goes elsewhere
+  with-flags : (b : Bool) → eqb at PSW ≡ b
+      → touches (cond b ((PSW ↤ v) ∷ []) ((at ↤ w) ∷ (PSW ↤ x) ∷ [])) k ≡ (eqb k at || isFlags k)
+  with-flags true e = or-false (isFlags k) ∙ (rw (eqb-true at PSW e) (sym (or-self (isFlags k))))
+  with-flags false e = ap (λ (c : Bool). eqb k at || c) (or-false (isFlags k))
 
-module _ (chip : Chip) (d : Data) where
-  arithmetic-cells : (at : ℕ) (o : Outcome) → ats (arithmeticWrites (d .cells) at o) ≡ arithmetic chip d at
-  unfolding arithmeticWrites
-  arithmetic-cells at o =
-      picked (isSet (d .cells) PSW CMP) _ _ _ _ refl (picked (eqb at PSW) _ _ _ _ refl refl)
+  unless-compared : (b : Bool)
+      → touches (cond b ((PSW ↤ x) ∷ []) (cond (eqb at PSW) ((PSW ↤ v) ∷ []) ((at ↤ w) ∷ (PSW ↤ x) ∷ []))) k ≡ ((not b && eqb k at) || isFlags k)
+  unless-compared true = or-false (isFlags k)
+  unless-compared false = with-flags (eqb at PSW) refl
 
-  result-cells : (op : AluOp) (at : ℕ) (o : Outcome) → ats (resultWrites (d .cells) op at o) ≡ operated chip d op at
+module _ (cells : List ℕ) (at k : ℕ) (o : Outcome) where
+  arithmetic : (op : AluOp) → isArithmetic op ≡ true
+      → touches (resultWrites cells op at o) k ≡ ((not (isSet cells PSW CMP) && eqb k at) || isFlags k)
+  unfolding resultWrites arithmeticWrites
+  arithmetic Add e = unless-compared at k _ _ _ (isSet cells PSW CMP)
+  arithmetic AddC e = unless-compared at k _ _ _ (isSet cells PSW CMP)
+  arithmetic Sub e = unless-compared at k _ _ _ (isSet cells PSW CMP)
+  arithmetic SubC e = unless-compared at k _ _ _ (isSet cells PSW CMP)
+  arithmetic Or e = absurd (false≢true e)
+  arithmetic And e = absurd (false≢true e)
+  arithmetic Xor e = absurd (false≢true e)
+
+  logic : (op : AluOp) → (isArithmetic op ≡ true → ⊥) → touches (resultWrites cells op at o) k ≡ eqb k at
   unfolding resultWrites
-  result-cells Add at o = arithmetic-cells at o
-  result-cells AddC at o = arithmetic-cells at o
-  result-cells Sub at o = arithmetic-cells at o
-  result-cells SubC at o = arithmetic-cells at o
-  result-cells Or at o = refl
-  result-cells And at o = refl
-  result-cells Xor at o = refl
+  logic Add n = absurd (n refl)
+  logic AddC n = absurd (n refl)
+  logic Sub n = absurd (n refl)
+  logic SubC n = absurd (n refl)
+  logic Or n = or-false (eqb k at)
+  logic And n = or-false (eqb k at)
+  logic Xor n = or-false (eqb k at)
 
-  rotate-cells : (at : ℕ) (o : Outcome) → ats (rotateWrites (d .cells) at o) ≡ withFlags chip d at
-  unfolding rotateWrites
-  rotate-cells at o = picked (eqb at PSW) _ _ _ _ refl refl
+module _ (chip : Chip) (d : Data) (top word k : ℕ) (h : k < 128) where
+  -- the instruction writes what it is to write
+  abbrev Writes : Instruction → (ℕ → Bool) → Type 0
+  Writes i cells = touches (writesOf chip d i top word) k ≡ cells k
 
-  skip-cells : (op : SkipOp) → ats (skipWrites (d .cells) op) ≡ tested chip d op
-  unfolding skipWrites
-  skip-cells Skt = refl
-  skip-cells Skf = refl
-  skip-cells Ske = refl
-  skip-cells Skne = refl
-  skip-cells Skge = refl
-  skip-cells Sklt = refl
+  named : (i : Instruction) (cells : ℕ → Bool) → Named chip d i cells → Writes i cells
+  unfolding writesOf writesAt addressesOf aluWrites skipWrites rotateWrites
+  named _ _ (alu-r op r m e) = arithmetic (d .cells) _ k _ op e
+  named _ _ (alu-m op m n4 e) = arithmetic (d .cells) _ k _ op e
+  named _ _ (rorc r) = with-flags _ k _ _ _ _ refl
+  named _ _ (skt m n) = or-false (isFlags k)
+  named _ _ (skf m n) = or-false (isFlags k)
+  named _ _ inc-ar = agree (touches (arWrites 0)) (fromTo AR3 AR0) tt k h
+  named _ _ pop-ar = agree (touches (arWrites 0)) (fromTo AR3 AR0) tt k h
+  named _ _ inc-ix = agree (touches (incrementIx [])) (fromTo IXH IXL) tt k h
+  named _ _ movt = agree (touches (bufferWrites 0)) (fromTo DBF3 DBF0) tt k h
 
-pub written-cells : (chip : Chip) → WrittenCells chip
-unfolding writesOf aluWrites writtenCells
-written-cells chip d (AluRegister op r m) top word = result-cells chip d op _ _
-written-cells chip d (AluImmediate op m n4) top word = result-cells chip d op _ _
-written-cells chip d (Skip op m n4) top word = skip-cells chip d op
-written-cells chip d (Rorc r) top word = rotate-cells chip d _ _
-written-cells chip d (Ld r m) top word = refl
-written-cells chip d (St m r) top word = refl
-written-cells chip d (MovToIndirect r m) top word = refl
-written-cells chip d (MovFromIndirect m r) top word = refl
-written-cells chip d (MovImmediate m n4) top word = refl
-written-cells chip d (Peek rf) top word = refl
-written-cells chip d (Poke rf) top word = refl
-written-cells chip d (Get p) top word = refl
-written-cells chip d (Put p) top word = refl
-written-cells chip d (Br addr) top word = refl
-written-cells chip d (Call addr) top word = refl
-written-cells chip d (Stop s) top word = refl
-written-cells chip d (Halt h) top word = refl
-written-cells chip d (Fixed IncAr) top word = refl
-written-cells chip d (Fixed IncIx) top word = refl
-written-cells chip d (Fixed Movt) top word = refl
-written-cells chip d (Fixed PushAr) top word = refl
-written-cells chip d (Fixed PopAr) top word = refl
-written-cells chip d (Fixed BrAr) top word = refl
-written-cells chip d (Fixed CallAr) top word = refl
-written-cells chip d (Fixed Ret) top word = refl
-written-cells chip d (Fixed Retsk) top word = refl
-written-cells chip d (Fixed Reti) top word = refl
-written-cells chip d (Fixed Ei) top word = refl
-written-cells chip d (Fixed Di) top word = refl
-written-cells chip d (Fixed Nop) top word = refl
+  nothing : false ≡ eqb k noCell
+  nothing = sym (ne-eqb k noCell (λ e. omega arith))
 
-touched : (ws : List Write) (k : ℕ) → touches ws k ≡ among (ats ws) k
-touched [] k = refl
-touched (w ∷ ws) k = ap (λ (b : Bool). eqb k (w .at) || b) (touched ws k)
+  others : (i : Instruction) → ((cells : ℕ → Bool) → Named chip d i cells → ⊥) → Writes i (isResult chip d i)
+  unfolding writesOf writesAt addressesOf addressIn aluWrites skipWrites transferWrites
+  others (AluRegister op r m) n = logic (d .cells) _ k _ op (λ e. n _ (alu-r op r m e))
+  others (AluImmediate op m n4) n = logic (d .cells) _ k _ op (λ e. n _ (alu-m op m n4 e))
+  others (Skip Skt m n4) n = absurd (n _ (skt m n4))
+  others (Skip Skf m n4) n = absurd (n _ (skf m n4))
+  others (Skip Ske m n4) n = nothing
+  others (Skip Skne m n4) n = nothing
+  others (Skip Skge m n4) n = nothing
+  others (Skip Sklt m n4) n = nothing
+  others (Rorc r) n = absurd (n _ (rorc r))
+  others (Ld r m) n = or-false _
+  others (St m r) n = or-false _
+  others (MovToIndirect r m) n = or-false _
+  others (MovFromIndirect m r) n = or-false _
+  others (MovImmediate m n4) n = or-false _
+  others (Peek rf) n = nothing
+  others (Poke rf) n = nothing
+  others (Get p) n = nothing
+  others (Put p) n = nothing
+  others (Br addr) n = nothing
+  others (Call addr) n = nothing
+  others (Stop s) n = nothing
+  others (Halt s) n = nothing
+  others (Fixed IncAr) n = absurd (n _ inc-ar)
+  others (Fixed IncIx) n = absurd (n _ inc-ix)
+  others (Fixed Movt) n = absurd (n _ movt)
+  others (Fixed PushAr) n = nothing
+  others (Fixed PopAr) n = absurd (n _ pop-ar)
+  others (Fixed BrAr) n = nothing
+  others (Fixed CallAr) n = nothing
+  others (Fixed Ret) n = nothing
+  others (Fixed Retsk) n = nothing
+  others (Fixed Reti) n = nothing
+  others (Fixed Ei) n = nothing
+  others (Fixed Di) n = nothing
+  others (Fixed Nop) n = nothing
 
-pub frame : (chip : Chip) → Frame chip
-unfolding writtenOf
-frame chip rom input i m k e =
-    let d = dataOf m input in
-    let word = getD rom (arOf (cellsOf m)) 0 in
-    let ws = writesOf chip d i (top (m .control)) word in
-    untouched chip ws (cellsOf m) k
-    (touched ws k ∙ ap (λ (l : List ℕ). among l k) (written-cells chip d i (top (m .control)) word) ∙ e)
+pub written-cells : (chip : Chip) (d : Data) (top word : ℕ) → WrittenCells chip d top word
+written-cells chip d top word = record {
+  named = λ i cells w k h. named chip d top word k h i cells w;
+  others = λ i n k h. others chip d top word k h i n;
+}

@@ -1,4 +1,5 @@
--- Document 01, "Numbers to check by": the twelve cases as one list under one statement. Proved in proofs/Numbers.antt.
+-- Document 01, "Numbers to check by": the twelve cases as one list under one statement. Proved in
+-- proofs/Computed.antt.
 -- Assumes nothing.
 use mathlib.Core.Path.{_≡_}
 use mathlib.Core.List.{List, [], _∷_, map}
@@ -12,12 +13,12 @@ use Rattle.isa.specs.declared.SkipOp.the-variants.{Ske}
 use Rattle.isa.specs.declared.Instruction.{Instruction}
 use Rattle.isa.specs.declared.Instruction.the-variants.{AluRegister, AluImmediate, Skip, Rorc, MovToIndirect, MovImmediate, Call}
 use Rattle.memory.specs.Chip.{upd17132}
-use Rattle.memory.specs.Names.{IXH, IXM, IXL, RPL, PSW, CY, Z, IXE, BCD, MPE}
+use Rattle.memory.specs.Names.{IXH, IXM, IXL, RPL, PSW, CY, IXE, BCD, MPE}
 use Rattle.memory.specs.Write.{Write, _↤_}
-use Rattle.execution.specs.Reply.{Reply, done, Step}
 use Rattle.machine.specs.Parts.{cellsOf, machineOf, resetControl}
-use Rattle.cpu.specs.Step.{stepOf}
 use Rattle.machine.specs.declared.Input.{Input}
+use Rattle.cpu.specs.Reply.{Reply, done, Step}
+use Rattle.cpu.specs.Step.{stepOf}
 
 -- a case is a word and its instruction, or an instruction alone in a ROM, with the cells before its step and after it
 pub data Case : Type 0 where
@@ -36,13 +37,13 @@ abbrev pub filled : List Write → List ℕ → List ℕ
 filled [] cells = cells
 filled (w ∷ ws) cells = filled ws (set cells (w .at) (w .value))
 
-abbrev pub run : Instruction → List Write → Step
-run i before = stepOf upd17132 (wordOf i ∷ []) quiet (machineOf (filled before (replicate 128 0)) resetControl)
+abbrev pub stepAlone : Instruction → List Write → Step
+stepAlone i before = stepOf upd17132 (wordOf i ∷ []) quiet (machineOf (filled before (replicate 128 0)) resetControl)
 
 abbrev pub gives : Case → Given
 gives (word i w) = words (encodeOf i) (decodeOf w)
 gives (step i before after) =
-    let s = run i before in
+    let s = stepAlone i before in
     stepped (s .reply) (map (λ (w : Write). getD (cellsOf (s .machine)) (w .at) 0) after)
 
 abbrev pub wants : Case → Given

@@ -1,11 +1,11 @@
--- The numbers that stand for the answers of the step and the run tell them apart.
+-- The numbers that stand for the answers of the step and the run tell them apart. Proved in proofs/Faithful.antt.
 -- Assumes nothing.
 use mathlib.Core.Path.{_≡_}
-use Rattle.cpu.specs.Answers.{replyOf, endOf}
+use Rattle.cpu.specs.Answers.{replyOf, replyNumber, endOf}
 use Rattle.cpu.specs.declared.Answer.{Answer}
 use Rattle.cpu.specs.declared.End.{End}
 
 -- what stands for each answer loses nothing
 pub record Faithful : Type 0 where
-  pub replies : (a b : Answer) → replyOf a ≡ replyOf b → a ≡ b
+  pub replies : (a b : Answer) → replyNumber (replyOf a) ≡ replyNumber (replyOf b) → a ≡ b
   pub ends : (a b : End) → endOf a ≡ endOf b → a ≡ b

@@ -1,4 +1,5 @@
 pub mod RangeLaws
+pub mod StepLaws
 pub mod RunLaws
 pub mod ReadLaw
 pub mod WrittenCells

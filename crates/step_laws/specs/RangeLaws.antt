@@ -6,10 +6,10 @@ use mathlib.Core.List.{List}
 use Prim.Native.Nat.{ℕ}
 use Rattle.memory.specs.Chip.{Chip}
 use Rattle.machine.specs.Ranges.{machineInRange}
-use Rattle.cpu.specs.Run.{runOf}
-use Rattle.cpu.specs.Step.{stepOf}
 use Rattle.machine.specs.declared.Input.{Input}
 use Rattle.machine.specs.declared.Machine.{Machine}
+use Rattle.cpu.specs.Run.{runOf}
+use Rattle.cpu.specs.Step.{stepOf}
 
 pub record RangeLaws (chip : Chip) : Type 0 where
   pub step : (rom : List ℕ) (input : Input) (m : Machine) → machineInRange chip m ≡ true

@@ -10,7 +10,7 @@ use Rattle.text.specs.Hex.{hexDigitOf, hexDigitsOf}
 use Rattle.machine.specs.Parts.{cellsOf}
 use Rattle.machine.specs.declared.Machine.{Machine}
 use Rattle.transcript.specs.Text.{space, newline, failText, hex1, hex3, decimal}
-use Rattle.transcript.specs.Inside.{fieldsOf}
+use Rattle.transcript.specs.Printing.{fieldsOf}
 use Rattle.transcript.specs.Transcript.{lineOf}
 
 four-of : (w : List ℕ) → length w ≡ 4 → w ≡ getD w 0 0 ∷ getD w 1 0 ∷ getD w 2 0 ∷ getD w 3 0 ∷ []

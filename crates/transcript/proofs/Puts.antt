@@ -8,7 +8,7 @@ use native.Mathlib.Omega.{arith}
 use lib.ListN.{length, getD, take, set, length-append}
 use lib.Seq.{sets, sets-eq, take-suc, take-all, length-take-le}
 use Rattle.station_file.specs.Read.{overlay}
-use Rattle.transcript.specs.Inside.{Wrote}
+use Rattle.transcript.specs.Printing.{Wrote}
 
 sets-append : (a b l : List ℕ) (at : ℕ) → sets l at (a ++ b) ≡ sets (sets l at a) (at + length a) b
 sets-append [] b l at = rw (add-zero at)

@@ -13,8 +13,8 @@ use Rattle.memory.specs.Chip.{upd17132}
 use Rattle.verifier.specs.Verdict as verdict
 use Rattle.station_file.specs.Read.{overlay}
 use Rattle.station_file.specs.Station.{Station, recordBytes}
-use Rattle.transcript.specs.declared.Told.{Told}
-use Rattle.transcript.specs.Inside.{Wrote, ToldTo}
+use Rattle.transcript.specs.declared.Progress as code
+use Rattle.transcript.specs.Printing.{Wrote, RecordedTo}
 use Rattle.transcript.specs.Text.{space, newline, sheetText, noneText, endText, decimal}
 use Rattle.transcript.specs.Transcript.{verdictText, sheetLine, endLine, stationText, transcriptOf, Left, printed, denied, printOf}
 use Rattle.transcript.proofs.Puts.{joined, reworded, fitting}
@@ -29,10 +29,10 @@ module _ (s : Station) {x y z : List ℕ} {r q : ℕ} where
   unfolding sheetLine
   checked n v e f h g = rw (ne-eqb (length (s .sheet)) 0 n, ← e) (joined 21 (omega arith) f g)
 
-module _ (s : Station) {w x y z : List ℕ} {from r : ℕ} (told : Told) where
+module _ (s : Station) {w x y z : List ℕ} {from r : ℕ} (p : code.Progress) where
   pub whole : length (s .inputs) ≤ 45045 → Wrote 21 0 (sheetLine s) w x from
-      → ToldTo (s .rom) (s .inputs) (length (s .inputs) / recordBytes) from x y told
-      → Wrote 16 (told .at) (endText ++ decimal (told .steps) ++ (space ∷ decimal (told .refusal)) ++ newline) y z r
+      → RecordedTo (s .rom) (s .inputs) (length (s .inputs) / recordBytes) from x y p
+      → Wrote 16 (p .at) (endText ++ decimal (p .steps) ++ (space ∷ decimal (p .refusal)) ++ newline) y z r
       → Wrote 100000 0 (stationText s) w z r
   unfolding stationText
   whole h f g e =

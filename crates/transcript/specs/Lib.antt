@@ -1,4 +1,4 @@
 pub mod Text
 pub mod Transcript
-pub mod Inside
+pub mod Printing
 pub mod Answers

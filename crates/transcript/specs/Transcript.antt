@@ -8,7 +8,7 @@ use lib.ListN.{getD, length, take, drop}
 use Rattle.text.specs.Hex.{hexDigitsOf}
 use Rattle.memory.specs.Chip.{upd17132}
 use Rattle.memory.specs.Names as names
-use Rattle.execution.specs.Reply.{Reply, done, inStandby, refused}
+use Rattle.cpu.specs.Reply.{Reply, done, inStandby, refused}
 use Rattle.machine.specs.Parts.{cellsOf, resetMachine}
 use Rattle.cpu.specs.Step.{stepOf}
 use Rattle.machine.specs.declared.Input.{Input}
@@ -44,44 +44,50 @@ lineOf number word before after =
     decimal number ++ (space ∷ hex3 (before .control .pc)) ++ (space ∷ word) ++ (space ∷ hex3 (after .control .pc))
     ++ (space ∷ hex1 (after .control .levels)) ++ (space ∷ hex1 (getD (cellsOf after) names.PSW 0)) ++ newline
 
--- how far the records have come: the record, the steps completed, the refusal or 0, and what is printed
+-- how far the records have come: the machine, the steps completed, and the refusal or 0
 pub record Progress : Type 0 where
   pub machine : Machine
   pub steps : ℕ
   pub refusal : ℕ
+
+-- what a record comes to, or several in turn, and what is printed for it
+pub record Outcome : Type 0 where
+  pub progress : Progress
   pub text : List ℕ
+
+-- one after another
+abbrev pub followed : Outcome → Outcome → Outcome
+followed a b = record { progress = b .progress; text = a .text ++ b .text }
 
 module _ (rom : List ℕ) where
   -- a step that is completed or stays standing prints its line, a refusal none
-  abbrev pub replied : ℕ → Progress → Reply → Machine → Progress
+  abbrev pub replied : ℕ → Progress → Reply → Machine → Outcome
   replied number p done after = record {
-    machine = after;
-    steps = p .steps + 1;
-    refusal = 0;
-    text = p .text ++ lineOf number (hexDigitsOf (getD rom (p .machine .control .pc) 0)) (p .machine) after;
+    progress = record { machine = after; steps = p .steps + 1; refusal = 0 };
+    text = lineOf number (hexDigitsOf (getD rom (p .machine .control .pc) 0)) (p .machine) after;
   }
   replied number p inStandby after = record {
-    machine = after;
-    steps = p .steps;
-    refusal = 0;
-    text = p .text ++ lineOf number dashes (p .machine) after;
+    progress = record { machine = after; steps = p .steps; refusal = 0 };
+    text = lineOf number dashes (p .machine) after;
   }
-  replied number p (refused n) after = record { machine = after; steps = p .steps; refusal = n; text = p .text }
+  replied number p (refused n) after = record { progress = record { machine = after; steps = p .steps; refusal = n }; text = [] }
 
   -- one record; "it stops at a refusal"
-  unfoldable pub recordOf : ℕ → Input → Progress → Progress
+  unfoldable pub recordOf : ℕ → Input → Progress → Outcome
   recordOf number i p =
       cond (eqb (p .refusal) 0)
       (let s = stepOf upd17132 rom i (p .machine) in replied number p (s .reply) (s .machine))
-      p
+      (record { progress = p; text = [] })
 
   -- the records in turn, numbered from 1
-  abbrev pub progressOf : ℕ → List Input → Progress → Progress
-  progressOf number [] p = p
-  progressOf number (i ∷ is) p = progressOf (suc number) is (recordOf number i p)
+  abbrev pub recordsOf : ℕ → List Input → Progress → Outcome
+  recordsOf number [] p = record { progress = p; text = [] }
+  recordsOf number (i ∷ is) p =
+      let first = recordOf number i p in
+      followed first (recordsOf (suc number) is (first .progress))
 
 abbrev pub begun : Progress
-begun = record { machine = resetMachine; steps = 0; refusal = 0; text = [] }
+begun = record { machine = resetMachine; steps = 0; refusal = 0 }
 
 -- "Last END, completed steps, refusal or 0"
 abbrev pub endLine : Progress → List ℕ
@@ -89,8 +95,8 @@ endLine p = endText ++ decimal (p .steps) ++ (space ∷ decimal (p .refusal)) ++
 
 unfoldable pub stationText : Station → List ℕ
 stationText s =
-    let p = progressOf (s .rom) 1 (inputsOf (length (s .inputs) / recordBytes) (s .inputs)) begun in
-    sheetLine s ++ p .text ++ endLine p
+    let all = recordsOf (s .rom) 1 (inputsOf (length (s .inputs) / recordBytes) (s .inputs)) begun in
+    sheetLine s ++ all .text ++ endLine (all .progress)
 
 -- "Bad file: the one line FILE and the refusal"
 abbrev pub readText : reading.Reading Station → List ℕ

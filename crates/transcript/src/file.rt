@@ -2,20 +2,20 @@
 ghost use mathlib.Core.Path.{_≡_};
 ghost use Prim.Native.Nat.{_≤_};
 ghost use lib.ListN.{length, take};
-ghost use Rattle.station_file.specs.Answers.{faultNumber};
+ghost use Rattle.station_file.specs.Answers.{fileNumber};
 ghost use Rattle.transcript.specs.Answers.{printedBy};
-ghost use Rattle.transcript.specs.Inside.{Wrote};
+ghost use Rattle.transcript.specs.Printing.{Wrote};
 ghost use Rattle.transcript.specs.Transcript.{stationText, transcriptOf, printOf};
 use crate::Printed;
 use crate::line::put_bad_file;
 use crate::whole::put_station;
-use station_file::Fault;
+use station_file::FileRefusal;
 use station_file::Loaded;
 
-fn fault_number(fault: Fault) -> u16
-    ensures { λ r. ⌜ r ≡ faultNumber fault ⌝ }
+fn refusal_number(refusal: FileRefusal) -> u16
+    ensures { λ r. ⌜ r ≡ fileNumber refusal ⌝ }
 {
-    numbers::of_fault(fault) as u16
+    refusal.number() as u16
 }
 
 // The text of the station at the front of three buffers.
@@ -47,7 +47,7 @@ fn put_file(file: &[u8], out: &mut [u8]) -> usize
             entries,
             records,
         } => put_front(&rom, words, &sheet, entries, &inputs, 11 * records, out),
-        Loaded::Refused(fault) => put_bad_file(out, fault_number(fault)),
+        Loaded::Refused(refusal) => put_bad_file(out, refusal_number(refusal)),
     }
 }
 

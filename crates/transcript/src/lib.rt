@@ -3,7 +3,7 @@ mod file;
 mod inputs;
 mod line;
 mod put;
-mod records;
+mod steps;
 mod whole;
 
 pub use file::transcript;
@@ -18,7 +18,7 @@ pub enum Printed {
 }
 
 // How far the records have come: the machine, the steps completed, the refusal or 0, and where the text goes on.
-struct Told {
+struct Progress {
     machine: Machine,
     steps: u16,
     refusal: u16,

@@ -3,7 +3,7 @@ ghost use mathlib.Core.Path.{_≡_};
 ghost use mathlib.Core.List.{_++_, _∷_};
 ghost use Prim.Native.Nat.{_≤_};
 ghost use Rattle.verifier.specs.Verdict.{fail};
-ghost use Rattle.transcript.specs.Inside.{Wrote, fieldsOf};
+ghost use Rattle.transcript.specs.Printing.{Wrote, fieldsOf};
 ghost use Rattle.transcript.specs.Text.{space, newline, fileText, endText, decimal};
 ghost use Rattle.transcript.specs.Transcript.{verdictText};
 use crate::put::put;

@@ -3,7 +3,7 @@
 ghost use mathlib.Core.Path.{_≡_};
 ghost use Prim.Native.Nat.{_+_, _≤_};
 ghost use lib.ListN.{length, set};
-ghost use Rattle.transcript.specs.Inside.{Wrote};
+ghost use Rattle.transcript.specs.Printing.{Wrote};
 ghost use Rattle.transcript.specs.Text.{decimal as decimalOf};
 
 fn put_byte(out: &mut [u8], at: usize, b: u8)

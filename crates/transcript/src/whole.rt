@@ -2,12 +2,12 @@
 ghost use mathlib.Core.List.{List};
 ghost use Prim.Native.Nat.{ℕ, _≤_};
 ghost use lib.ListN.{length};
-ghost use Rattle.transcript.specs.Inside.{Wrote};
+ghost use Rattle.transcript.specs.Printing.{Wrote};
 ghost use Rattle.transcript.specs.Transcript.{sheetLine, stationText};
 use crate::line::put_end;
 use crate::line::put_failure;
 use crate::put::put;
-use crate::records::tell_records;
+use crate::steps::put_records;
 use verifier::Verdict;
 
 // The line of the check; a sheet of no entries is not checked.
@@ -32,6 +32,6 @@ pub fn put_station(rom: &[u16], sheet: &[u8], inputs: &[u8], out: &mut [u8]) -> 
     ensures { λ r. ⌜ Wrote 100000 0 (stationText (record { rom = now (rom .entry); sheet = now (sheet .entry); inputs = now (inputs .entry) })) (now (out .entry)) (now (out .exit)) r ⌝ }
 {
     let from = put_sheet(rom, sheet, out);
-    let told = tell_records(rom, inputs, out, from);
-    put_end(out, told.at, told.steps, told.refusal)
+    let progress = put_records(rom, inputs, out, from);
+    put_end(out, progress.at, progress.steps, progress.refusal)
 }

@@ -1,5 +1,5 @@
-//! The programs of `crates/vectors_cpu/stdin` stand there as words, each with
-//! its line of the manual's assembler behind it. The two must agree.
+//! In the files of `cases/data` a word stands with its line of the manual's
+//! assembler behind it. The two must agree.
 
 use reference::encode;
 use reference::Instruction::{self, *};
@@ -139,22 +139,30 @@ fn assembled(line: &str) -> Instruction {
     }
 }
 
-/// The word of a line of the script, where it has one, and what stands behind.
+/// The word of a line of cases, where it has one, and what stands behind. What
+/// a line sets before a call is no word.
 fn word_and_line(text: &str) -> Option<(u16, &str)> {
-    let (word, line) = text.split_once(';')?;
-    let word = word.trim();
-    let is_word =
-        word.len() == 4 && word.bytes().all(|b| b.is_ascii_digit() || b.is_ascii_uppercase());
-    is_word.then(|| (u16::from_str_radix(word, 16).expect("a word"), line.trim()))
+    let (front, line) = text.split_once(';')?;
+    let is_word = |part: &&str| {
+        part.len() == 4 && part.bytes().all(|b| b.is_ascii_digit() || b.is_ascii_uppercase())
+    };
+    let word = front.split([' ', ',']).find(is_word)?;
+    let sets = front.trim_start().starts_with("with ");
+    (!sets).then(|| (u16::from_str_radix(word, 16).expect("a word"), line.trim()))
+}
+
+fn each_word_is_its_line(cases: &str, count: usize) {
+    let words: Vec<_> = cases.lines().filter_map(word_and_line).collect();
+    for (word, line) in &words {
+        assert_eq!(encode(assembled(line)), Ok(*word), "{line}");
+    }
+    assert_eq!(words.len(), count);
 }
 
 #[test]
-fn each_word_is_its_line() {
-    let script = include_str!("../../../crates/vectors_cpu/stdin");
-    let mut words = 0;
-    for (word, line) in script.lines().filter_map(word_and_line) {
-        assert_eq!(encode(assembled(line)), Ok(word), "{line}");
-        words += 1;
-    }
-    assert_eq!(words, 665);
+fn each_word_of_the_cases_is_its_line() {
+    each_word_is_its_line(include_str!("../../../cases/data/programs.cases"), 665);
+    each_word_is_its_line(include_str!("../../../cases/data/data.cases"), 235);
+    each_word_is_its_line(include_str!("../../../cases/data/host.cases"), 5);
+    each_word_is_its_line(include_str!("../../../cases/data/checks.cases"), 627);
 }

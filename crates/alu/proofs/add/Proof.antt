@@ -5,12 +5,6 @@ use Rattle.laws.proofs.Bits.{byte-bit, byte-below}
 use Rattle.alu.proofs.add.Statement.{statement}
 use Rattle.alu.proofs.add.Tie as tie
 
-add-n : tie.Need-add-n
-add-n c = search needs
-
-cast-n : tie.Need-cast-n
-cast-n c = search needs
-
 add-n-2 : tie.Need-add-n-2
 add-n-2 c = omega (arith, byte-below (c .args .carry))
 
@@ -26,4 +20,4 @@ unfolding addOf binarySum
 returns-2 c = rw (c .if1 .left, byte-bit)
 
 pub add-spec : {M : Type 1} → statement M
-add-spec = tie.close (tie.spec add-n cast-n add-n-2 decimal-requires returns returns-2)
+add-spec = tie.close (tie.spec (λ c. search needs) (λ c. search needs) add-n-2 decimal-requires returns returns-2)

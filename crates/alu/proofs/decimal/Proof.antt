@@ -4,12 +4,6 @@ use Rattle.alu.proofs.Rows.{decimal-sum, decimal-difference}
 use Rattle.alu.proofs.decimal.Statement.{statement}
 use Rattle.alu.proofs.decimal.Tie as tie
 
-array-read-t9 : tie.Need-array-read-t9
-array-read-t9 c = search needs
-
-array-read-t15 : tie.Need-array-read-t15
-array-read-t15 c = search needs
-
 returns : tie.Need-returns
 unfolding above9 below-10
 returns c = rw (c .if1 .taken) (decimal-difference (c .before .args .row) (c .before .pre))
@@ -19,4 +13,4 @@ unfolding above19
 returns-2 c = rw (c .if1 .left) (decimal-sum (c .before .args .row) (c .before .pre))
 
 pub decimal-spec : {M : Type 1} → statement M
-decimal-spec = tie.close (tie.spec array-read-t9 array-read-t15 returns returns-2)
+decimal-spec = tie.close (tie.spec (λ c. search needs) (λ c. search needs) returns returns-2)

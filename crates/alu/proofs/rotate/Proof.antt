@@ -5,9 +5,6 @@ use Rattle.laws.proofs.Bits.{byte-bit, byte-below}
 use Rattle.alu.proofs.rotate.Statement.{statement}
 use Rattle.alu.proofs.rotate.Tie as tie
 
-cast-t3 : tie.Need-cast-t3
-cast-t3 c = search needs
-
 mul-t4 : tie.Need-mul-t4
 mul-t4 c = omega (arith, byte-below (c .args .carry))
 
@@ -19,4 +16,4 @@ unfolding rotateOf
 returns c = rw byte-bit
 
 pub rotate-spec : {M : Type 1} → statement M
-rotate-spec = tie.close (tie.spec cast-t3 mul-t4 add-t7 returns)
+rotate-spec = tie.close (tie.spec (λ c. search needs) mul-t4 add-t7 returns)

@@ -6,20 +6,8 @@ use Rattle.alu.proofs.Rows.{binary-difference, operands-row}
 use Rattle.alu.proofs.subtract.Statement.{statement}
 use Rattle.alu.proofs.subtract.Tie as tie
 
-add-row : tie.Need-add-row
-add-row c = search needs
-
-sub-row : tie.Need-sub-row
-sub-row c = search needs
-
-cast-row : tie.Need-cast-row
-cast-row c = search needs
-
 sub-row-2 : tie.Need-sub-row-2
 sub-row-2 c = omega (arith, byte-below (c .args .carry))
-
-decimal-requires : tie.Need-decimal-requires
-decimal-requires c κs = search needs
 
 returns : tie.Need-returns
 unfolding subtractOf
@@ -31,4 +19,4 @@ returns-2 c = rw (c .if1 .left, ← operands-row) (binary-difference _ (omega ar
 
 pub subtract-spec : {M : Type 1} → statement M
 subtract-spec =
-    tie.close (tie.spec add-row sub-row cast-row sub-row-2 decimal-requires returns returns-2)
+    tie.close (tie.spec (λ c. search needs) (λ c. search needs) (λ c. search needs) sub-row-2 (λ c κs. search needs) returns returns-2)

@@ -9,21 +9,6 @@ use borrow.Author.Needs.{needs}
 use Rattle.station.proofs.show.Statement.{statement}
 use Rattle.station.proofs.show.Tie as tie
 
-transcript-requires : tie.Need-transcript-requires
-transcript-requires c κs = search needs
-
-enum-known-length : tie.Need-enum-known-length
-enum-known-length c = search needs
-
-enum-told : tie.Need-enum-told
-enum-told c = search needs
-
-same-length : tie.Need-same-length
-same-length c = search needs
-
-returns : tie.Need-returns
-returns c = search needs
-
 -- the text lies within the buffer
 fits : (c : tie.After-length) → c .length .given .0 .0 ≤ length (c .before .before .before .before .transcript .last .1 .0)
 fits c = within _ _ _ _ (sym (ap (λ (r : Printed). printedBy r (c .before .before .before .before .transcript .last .1 .0)) (c .length .given .1)) ∙ c .before .before .before .before .transcript .ensures .0)
@@ -34,26 +19,17 @@ slice-reshare-prefix-write-all c = fits (c .before)
 slice-aggregate-write-all : tie.Need-slice-aggregate-write-all
 slice-aggregate-write-all c = sym (length-take-le _ _ (fits (c .before .before)))
 
-write-all-requires : tie.Need-write-all-requires
-write-all-requires c κs = search needs
-
-same-length-2 : tie.Need-same-length-2
-same-length-2 c = search needs
-
-returns-2 : tie.Need-returns-2
-returns-2 c = search needs
-
 pub show-spec : {M : Type 1} → statement M
 show-spec =
     tie.close
     (tie.spec
-    transcript-requires
-    enum-known-length
-    enum-told
-    same-length
-    returns
+    (λ c κs. search needs)
+    (λ c. search needs)
+    (λ c. search needs)
+    (λ c. search needs)
+    (λ c. search needs)
     slice-reshare-prefix-write-all
     slice-aggregate-write-all
-    write-all-requires
-    same-length-2
-    returns-2)
+    (λ c κs. search needs)
+    (λ c. search needs)
+    (λ c. search needs))

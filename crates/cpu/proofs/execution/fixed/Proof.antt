@@ -14,50 +14,17 @@ use borrow.Author.Needs.{needs}
 use Rattle.cpu.proofs.execution.fixed.Statement.{statement}
 use Rattle.cpu.proofs.execution.fixed.Tie as tie
 
-enum-told : tie.Need-enum-told
-enum-told c = search needs
-
-increment-ar-requires : tie.Need-increment-ar-requires
-increment-ar-requires c κs = search needs
-
-onward-requires : tie.Need-onward-requires
-onward-requires c κs = search needs
-
 returns : tie.Need-returns
 unfolding transferBy controlOf pastTable writtenOf writesOf writesAt writesApplied
 returns c = λ input. rw (c .before .before .before .enum-told .given .1) (completes _ _ input _ _ _ _ _ _ _ (c .onward .ensures _) refl (c .before .increment-ar .ensures))
-
-enum-told-2 : tie.Need-enum-told-2
-enum-told-2 c = search needs
-
-increment-ix-requires : tie.Need-increment-ix-requires
-increment-ix-requires c κs = search needs
-
-onward-requires-2 : tie.Need-onward-requires-2
-onward-requires-2 c κs = search needs
 
 returns-2 : tie.Need-returns-2
 unfolding transferBy controlOf pastTable writtenOf writesOf writesAt writesApplied
 returns-2 c = λ input. rw (c .before .before .before .enum-told2 .given .1) (completes _ _ input _ _ _ _ _ _ _ (c .onward2 .ensures _) refl (c .before .increment-ix .ensures))
 
-enum-told-3 : tie.Need-enum-told-3
-enum-told-3 c = search needs
-
-movt-requires : tie.Need-movt-requires
-movt-requires c κs = search needs
-
 returns-3 : tie.Need-returns-3
 unfolding transferBy controlOf pastTable writtenOf writesOf writesAt writesApplied
 returns-3 c = λ input. rw (c .before .before .enum-told3 .given .1) (c .movt .ensures input _)
-
-enum-told-4 : tie.Need-enum-told-4
-enum-told-4 c = search needs
-
-ar-requires : tie.Need-ar-requires
-ar-requires c κs = search needs
-
-push-requires : tie.Need-push-requires
-push-requires c κs = search needs
 
 returns-4 : tie.Need-returns-4
 unfolding transferBy controlOf pastTable writtenOf writesOf writesAt writesApplied
@@ -67,24 +34,9 @@ returns-4 c = λ input.
     (moves _ _ input _ _ _ _ (c .push .result) (c .push .last .0)
     (c .push .ensures ∙ ap (λ (n : ℕ). pushOf upd17132 n (withStack (s .stack .now) (s .regs))) (c .before .ar .ensures)) refl refl)
 
-enum-told-5 : tie.Need-enum-told-5
-enum-told-5 c = search needs
-
-pop-ar-requires : tie.Need-pop-ar-requires
-pop-ar-requires c κs = search needs
-
 returns-5 : tie.Need-returns-5
 unfolding transferBy controlOf pastTable writtenOf writesOf writesAt writesApplied
 returns-5 c = λ input. rw (c .before .before .before .enum-told5 .given .1) (c .pop-ar .ensures _ input)
-
-enum-told-6 : tie.Need-enum-told-6
-enum-told-6 c = search needs
-
-ar-requires-2 : tie.Need-ar-requires-2
-ar-requires-2 c κs = search needs
-
-jump-requires : tie.Need-jump-requires
-jump-requires c κs = search needs
 
 returns-6 : tie.Need-returns-6
 unfolding transferBy controlOf pastTable writtenOf writesOf writesAt writesApplied
@@ -95,15 +47,6 @@ returns-6 c = λ input.
     (ap goes (c .jump .ensures (s .stack .now) ∙ ap (λ (n : ℕ). jumpTo n (withStack (s .stack .now) (s .regs))) (c .before .ar2 .ensures)))
     refl refl)
 
-enum-told-7 : tie.Need-enum-told-7
-enum-told-7 c = search needs
-
-ar-requires-3 : tie.Need-ar-requires-3
-ar-requires-3 c κs = search needs
-
-call-requires : tie.Need-call-requires
-call-requires c κs = search needs
-
 returns-7 : tie.Need-returns-7
 unfolding transferBy controlOf pastTable writtenOf writesOf writesAt writesApplied
 returns-7 c = λ input.
@@ -112,52 +55,25 @@ returns-7 c = λ input.
     (moves _ _ input _ _ _ _ (c .call .result) (c .call .last .0)
     (c .call .ensures ∙ ap (λ (n : ℕ). callOf upd17132 n (withStack (s .stack .now) (s .regs))) (c .before .ar3 .ensures)) refl refl)
 
-enum-told-8 : tie.Need-enum-told-8
-enum-told-8 c = search needs
-
-ret-requires : tie.Need-ret-requires
-ret-requires c κs = search needs
-
 returns-8 : tie.Need-returns-8
 unfolding transferBy controlOf pastTable writtenOf writesOf writesAt writesApplied
 returns-8 c = λ input. rw (c .before .before .enum-told8 .given .1) (moves _ _ input _ _ _ _ (c .ret .result) (c .ret .last .0) (c .ret .ensures) refl refl)
-
-enum-told-9 : tie.Need-enum-told-9
-enum-told-9 c = search needs
-
-ret-requires-2 : tie.Need-ret-requires-2
-ret-requires-2 c κs = search needs
 
 returns-9 : tie.Need-returns-9
 unfolding transferBy controlOf pastTable writtenOf writesOf writesAt writesApplied
 returns-9 c = λ input. rw (c .before .before .enum-told9 .given .1) (moves _ _ input _ _ _ _ (c .ret2 .result) (c .ret2 .last .0) (c .ret2 .ensures) refl refl)
 
-enum-told-10 : tie.Need-enum-told-10
-enum-told-10 c = search needs
-
 returns-10 : tie.Need-returns-10
 unfolding transferBy controlOf pastTable writtenOf writesOf writesAt writesApplied executeOf
 returns-10 c = λ input. rw (c .enum-told10 .given .1)
-
-enum-told-11 : tie.Need-enum-told-11
-enum-told-11 c = search needs
 
 returns-11 : tie.Need-returns-11
 unfolding transferBy controlOf pastTable writtenOf writesOf writesAt writesApplied executeOf
 returns-11 c = λ input. rw (c .enum-told11 .given .1)
 
-enum-told-12 : tie.Need-enum-told-12
-enum-told-12 c = search needs
-
 returns-12 : tie.Need-returns-12
 unfolding transferBy controlOf pastTable writtenOf writesOf writesAt writesApplied executeOf
 returns-12 c = λ input. rw (c .enum-told12 .given .1)
-
-enum-told-13 : tie.Need-enum-told-13
-enum-told-13 c = search needs
-
-onward-requires-3 : tie.Need-onward-requires-3
-onward-requires-3 c κs = search needs
 
 returns-13 : tie.Need-returns-13
 unfolding transferBy controlOf pastTable writtenOf writesOf writesAt writesApplied
@@ -167,44 +83,44 @@ pub fixed-spec : {M : Type 1} → statement M
 fixed-spec =
     tie.close
     (tie.spec
-    enum-told
-    increment-ar-requires
-    onward-requires
+    (λ c. search needs)
+    (λ c κs. search needs)
+    (λ c κs. search needs)
     returns
-    enum-told-2
-    increment-ix-requires
-    onward-requires-2
+    (λ c. search needs)
+    (λ c κs. search needs)
+    (λ c κs. search needs)
     returns-2
-    enum-told-3
-    movt-requires
+    (λ c. search needs)
+    (λ c κs. search needs)
     returns-3
-    enum-told-4
-    ar-requires
-    push-requires
+    (λ c. search needs)
+    (λ c κs. search needs)
+    (λ c κs. search needs)
     returns-4
-    enum-told-5
-    pop-ar-requires
+    (λ c. search needs)
+    (λ c κs. search needs)
     returns-5
-    enum-told-6
-    ar-requires-2
-    jump-requires
+    (λ c. search needs)
+    (λ c κs. search needs)
+    (λ c κs. search needs)
     returns-6
-    enum-told-7
-    ar-requires-3
-    call-requires
+    (λ c. search needs)
+    (λ c κs. search needs)
+    (λ c κs. search needs)
     returns-7
-    enum-told-8
-    ret-requires
+    (λ c. search needs)
+    (λ c κs. search needs)
     returns-8
-    enum-told-9
-    ret-requires-2
+    (λ c. search needs)
+    (λ c κs. search needs)
     returns-9
-    enum-told-10
+    (λ c. search needs)
     returns-10
-    enum-told-11
+    (λ c. search needs)
     returns-11
-    enum-told-12
+    (λ c. search needs)
     returns-12
-    enum-told-13
-    onward-requires-3
+    (λ c. search needs)
+    (λ c κs. search needs)
     returns-13)

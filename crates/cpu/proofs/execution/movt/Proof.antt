@@ -7,26 +7,11 @@ use borrow.Author.Needs.{needs}
 use Rattle.cpu.proofs.execution.movt.Statement.{statement}
 use Rattle.cpu.proofs.execution.movt.Tie as tie
 
-table-requires : tie.Need-table-requires
-table-requires c κs = search needs
-
-enum-known-transfer : tie.Need-enum-known-transfer
-enum-known-transfer c = search needs
-
-enum-told : tie.Need-enum-told
-enum-told c = search needs
-
 returns : tie.Need-returns
 unfolding transferBy controlOf pastTable writtenOf writesOf writesAt
 returns c = λ input stack.
     let g = c .enum-told .given in
     rw (g .1) (refuses _ _ input _ stack _ _ (g .0 .0) stack (rw (g .1) at (c .before .before .table .ensures stack)))
-
-ar-requires : tie.Need-ar-requires
-ar-requires c κs = search needs
-
-cast-ar : tie.Need-cast-ar
-cast-ar c = search needs
 
 returns-2 : tie.Need-returns-2
 unfolding transferBy controlOf pastTable writtenOf writesOf writesAt
@@ -34,15 +19,6 @@ returns-2 c = λ input stack.
     let g = c .before .before .before .before .transfer .given in
     misses _ _ input _ stack _ _ stack (g .0 .0) (rw (g .1) at (c .before .before .before .before .before .before .table .ensures stack))
     (rw (← c .before .ar .ensures) (le-leb _ _ (c .if1 .taken)))
-
-mul-write-buffer : tie.Need-mul-write-buffer
-mul-write-buffer c = search needs
-
-shared-slice-read-write-buffer : tie.Need-shared-slice-read-write-buffer
-shared-slice-read-write-buffer c = search needs
-
-write-buffer-requires : tie.Need-write-buffer-requires
-write-buffer-requires c κs = search needs
 
 returns-3 : tie.Need-returns-3
 unfolding transferBy controlOf pastTable writtenOf writesOf writesAt
@@ -56,14 +32,14 @@ pub movt-spec : {M : Type 1} → statement M
 movt-spec =
     tie.close
     (tie.spec
-    table-requires
-    enum-known-transfer
-    enum-told
+    (λ c κs. search needs)
+    (λ c. search needs)
+    (λ c. search needs)
     returns
-    ar-requires
-    cast-ar
+    (λ c κs. search needs)
+    (λ c. search needs)
     returns-2
-    mul-write-buffer
-    shared-slice-read-write-buffer
-    write-buffer-requires
+    (λ c. search needs)
+    (λ c. search needs)
+    (λ c κs. search needs)
     returns-3)

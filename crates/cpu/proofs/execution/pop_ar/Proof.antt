@@ -7,26 +7,11 @@ use borrow.Author.Needs.{needs}
 use Rattle.cpu.proofs.execution.pop_ar.Statement.{statement}
 use Rattle.cpu.proofs.execution.pop_ar.Tie as tie
 
-top-requires : tie.Need-top-requires
-top-requires c κs = search needs
-
-pop-requires : tie.Need-pop-requires
-pop-requires c κs = search needs
-
-enum-known-transfer : tie.Need-enum-known-transfer
-enum-known-transfer c = search needs
-
-enum-told : tie.Need-enum-told
-enum-told c = search needs
-
 returns : tie.Need-returns
 unfolding transferBy controlOf pastTable writtenOf writesOf writesAt
 returns c = λ rom input.
     let g = c .enum-told .given in
     rw (g .1) (refuses _ rom input _ _ _ _ (g .0 .0) _ (rw (g .1) at (c .before .before .pop .ensures)))
-
-write-ar-requires : tie.Need-write-ar-requires
-write-ar-requires c κs = search needs
 
 returns-2 : tie.Need-returns-2
 unfolding transferBy controlOf pastTable writtenOf writesOf writesAt
@@ -38,4 +23,4 @@ returns-2 c = λ rom input.
 pub pop-ar-spec : {M : Type 1} → statement M
 pop-ar-spec =
     tie.close
-    (tie.spec top-requires pop-requires enum-known-transfer enum-told returns write-ar-requires returns-2)
+    (tie.spec (λ c κs. search needs) (λ c κs. search needs) (λ c. search needs) (λ c. search needs) returns (λ c κs. search needs) returns-2)

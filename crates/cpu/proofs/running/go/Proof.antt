@@ -60,33 +60,15 @@ module _ (h : tie.At-loop Inv-loop μ-loop) where
   ends : (steps : ℕ) (r : Reply) (m : Machine) → Ends upd17132 rom input budget start steps r m → Ends upd17132 rom input budget machine steps r m
   ends steps r m e = subst (λ (x : Machine). Ends upd17132 rom input budget x steps r m) whole e
 
-so-far-requires : tie.Need-so-far-requires Inv-loop μ-loop
-so-far-requires c κs = search needs
-
 returns : tie.Need-returns Inv-loop μ-loop
 returns c =
     let e = not-so-many _ _ _ _ _ (c .before .if1 .taken) in
     rw (c .so-far .ensures) (e .run, (e .step, e .cost))
 
-all-requires : tie.Need-all-requires Inv-loop μ-loop
-all-requires c κs = search needs
-
-so-far-requires-2 : tie.Need-so-far-requires-2 Inv-loop μ-loop
-so-far-requires-2 c κs = search needs
-
 returns-2 : tie.Need-returns-2 Inv-loop μ-loop
 returns-2 c =
     let e = not-in-range _ _ _ _ _ (sym (c .before .before .all .ensures) ∙ not-true _ (c .before .if2 .taken)) in
     rw (c .so-far2 .ensures) (e .run, (e .step, e .cost))
-
-regs-of-requires : tie.Need-regs-of-requires Inv-loop μ-loop
-regs-of-requires c κs = search needs
-
-stays-standing-requires : tie.Need-stays-standing-requires Inv-loop μ-loop
-stays-standing-requires c κs = search needs
-
-so-far-requires-3 : tie.Need-so-far-requires-3 Inv-loop μ-loop
-so-far-requires-3 c κs = search needs
 
 returns-3 : tie.Need-returns-3 Inv-loop μ-loop
 returns-3 c =
@@ -98,21 +80,6 @@ returns-3 c =
 
 loop-holds : tie.Need-loop-holds Inv-loop μ-loop
 loop-holds c = λ release fine awake. begun _ _ _ _ _ (omega arith) fine awake
-
-advance-requires : tie.Need-advance-requires Inv-loop μ-loop
-advance-requires c κs = search needs
-
-enum-known-next : tie.Need-enum-known-next Inv-loop μ-loop
-enum-known-next c = search needs
-
-add-steps : tie.Need-add-steps Inv-loop μ-loop
-add-steps c = search needs
-
-join-requires : tie.Need-join-requires Inv-loop μ-loop
-join-requires c κs = search needs
-
-so-far-requires-4 : tie.Need-so-far-requires-4 Inv-loop μ-loop
-so-far-requires-4 c κs = search needs
 
 returns-4 : tie.Need-returns-4 Inv-loop μ-loop
 returns-4 c =
@@ -128,26 +95,11 @@ loop-again c = λ release fine awake.
     let g = c .before .before .before .before .before .before .before .before .before .before .before .loop .inv release fine awake in
     going _ _ _ _ _ _ _ g (c .before .before .before .before .before .before .before .before .before .before .loop-test .taken) (lit≤ tt) ar-fits _ (rw (c .before .before .before .next .given .1) at (c .before .before .before .before .before .advance .ensures release (g .awake))) (not-marked _ (c .if4 .left))
 
-enum-known-refusal : tie.Need-enum-known-refusal Inv-loop μ-loop
-enum-known-refusal c = search needs
-
-join-requires-2 : tie.Need-join-requires-2 Inv-loop μ-loop
-join-requires-2 c κs = search needs
-
-so-far-requires-5 : tie.Need-so-far-requires-5 Inv-loop μ-loop
-so-far-requires-5 c κs = search needs
-
 returns-5 : tie.Need-returns-5 Inv-loop μ-loop
 returns-5 c =
     let h = c .before .before .before .before .before .before .before .before .before .before .before in
     let e = ends h _ _ _ (refuses _ _ _ _ _ _ _ (head h) (c .before .before .before .before .before .before .before .before .before .before .loop-test .taken) _ _ (rw (c .before .before .before .refusal .given .1) at (c .before .before .before .before .before .advance .ensures (input h .release) (head h .awake)))) in
     rw (c .so-far5 .ensures, c .before .join2 .ensures) (e .run, (e .step, e .cost))
-
-join-requires-3 : tie.Need-join-requires-3 Inv-loop μ-loop
-join-requires-3 c κs = search needs
-
-so-far-requires-6 : tie.Need-so-far-requires-6 Inv-loop μ-loop
-so-far-requires-6 c κs = search needs
 
 returns-6 : tie.Need-returns-6 Inv-loop μ-loop
 returns-6 c =
@@ -161,28 +113,28 @@ go-spec =
     (tie.spec
     Inv-loop
     μ-loop
-    so-far-requires
+    (λ c κs. search needs)
     returns
-    all-requires
-    so-far-requires-2
+    (λ c κs. search needs)
+    (λ c κs. search needs)
     returns-2
-    regs-of-requires
-    stays-standing-requires
-    so-far-requires-3
+    (λ c κs. search needs)
+    (λ c κs. search needs)
+    (λ c κs. search needs)
     returns-3
     loop-holds
-    advance-requires
-    enum-known-next
-    add-steps
-    join-requires
-    so-far-requires-4
+    (λ c κs. search needs)
+    (λ c. search needs)
+    (λ c. search needs)
+    (λ c κs. search needs)
+    (λ c κs. search needs)
     returns-4
     loop-less
     loop-again
-    enum-known-refusal
-    join-requires-2
-    so-far-requires-5
+    (λ c. search needs)
+    (λ c κs. search needs)
+    (λ c κs. search needs)
     returns-5
-    join-requires-3
-    so-far-requires-6
+    (λ c κs. search needs)
+    (λ c κs. search needs)
     returns-6)

@@ -4,13 +4,10 @@ use Rattle.cpu.specs.Reply.{Step, costOf}
 use Rattle.cpu.proofs.running.step.Statement.{statement}
 use Rattle.cpu.proofs.running.step.Tie as tie
 
-go-requires : tie.Need-go-requires
-go-requires c κs = search needs
-
 returns : tie.Need-returns
 returns c =
     let s = c .go .ensures .1 .0 refl in
     (s, c .go .ensures .1 .1 refl ∙ ap (λ (x : Step). costOf (x .reply) .steps) s)
 
 pub step-spec : {M : Type 1} → statement M
-step-spec = tie.close (tie.spec go-requires returns)
+step-spec = tie.close (tie.spec (λ c κs. search needs) returns)

@@ -13,25 +13,10 @@ use Rattle.cpu.proofs.Phases.{past, passed-over, undecodable, carried-o
 use Rattle.cpu.proofs.stepping.advance.Statement.{statement}
 use Rattle.cpu.proofs.stepping.advance.Tie as tie
 
-fetch-requires : tie.Need-fetch-requires
-fetch-requires c κs = search needs
-
-enum-known-word : tie.Need-enum-known-word
-enum-known-word c = search needs
-
-enum-told : tie.Need-enum-told
-enum-told c = search needs
-
 returns : tie.Need-returns
 returns c = λ release goes.
     let s = c .before .before .before .before .args in
     past _ _ _ _ goes (past-rom (s .rom .now) (s .regs .pc) (sym (c .before .before .fetch .ensures) ∙ c .enum-told .given .1))
-
-woken-requires : tie.Need-woken-requires
-woken-requires c κs = search needs
-
-onward-requires : tie.Need-onward-requires
-onward-requires c κs = search needs
 
 returns-2 : tie.Need-returns-2
 unfolding onwardOf
@@ -43,24 +28,12 @@ returns-2 c = λ release goes.
     ∙ ap (λ (k : Control). withSkip false (onwards upd17132 k)) (c .before .before .before .woken .ensures (s .stack .now)))
     ∙ passed-over _ _ _ _ goes (w .0) (is-marked _ (c .before .if1 .taken))
 
-decode-requires : tie.Need-decode-requires
-decode-requires c κs = search needs
-
-enum-known-instruction : tie.Need-enum-known-instruction
-enum-known-instruction c = search needs
-
-enum-told-2 : tie.Need-enum-told-2
-enum-told-2 c = search needs
-
 returns-3 : tie.Need-returns-3
 returns-3 c = λ release goes.
     let s = c .before .before .before .before .before .before .before .before .before .before .before .args in
     let w = word-at (s .rom .now) (s .regs .pc) _ (sym (c .before .before .before .before .before .before .before .before .before .fetch .ensures) ∙ c .before .before .before .before .before .before .before .word .given .1) in
     undecodable _ _ _ _ goes (w .0) (not-marked _ (c .before .before .before .if1 .left))
     (ap decodeOf (w .1) ∙ sym (c .before .before .decode .ensures) ∙ ap decodingOf (c .enum-told2 .given .1))
-
-execute-requires : tie.Need-execute-requires
-execute-requires c κs = search needs
 
 returns-4 : tie.Need-returns-4
 returns-4 c = λ release goes.
@@ -75,16 +48,16 @@ pub advance-spec : {M : Type 1} → statement M
 advance-spec =
     tie.close
     (tie.spec
-    fetch-requires
-    enum-known-word
-    enum-told
+    (λ c κs. search needs)
+    (λ c. search needs)
+    (λ c. search needs)
     returns
-    woken-requires
-    onward-requires
+    (λ c κs. search needs)
+    (λ c κs. search needs)
     returns-2
-    decode-requires
-    enum-known-instruction
-    enum-told-2
+    (λ c κs. search needs)
+    (λ c. search needs)
+    (λ c. search needs)
     returns-3
-    execute-requires
+    (λ c κs. search needs)
     returns-4)

@@ -4,15 +4,6 @@ use borrow.Author.Needs.{needs}
 use Rattle.isa.proofs.decoder.decode.Statement.{statement}
 use Rattle.isa.proofs.decoder.decode.Tie as tie
 
-cast-m : tie.Need-cast-m
-cast-m c = search needs
-
-cast-x : tie.Need-cast-x
-cast-x c = search needs
-
-group-word-requires : tie.Need-group-word-requires
-group-word-requires c κs = search needs
-
 returns : tie.Need-returns
 unfolding decodeOf entryOf overview
 returns c = rw (c .match .keys1)
@@ -133,9 +124,9 @@ pub decode-spec : {M : Type 1} → statement M
 decode-spec =
     tie.close
     (tie.spec
-    cast-m
-    cast-x
-    group-word-requires
+    (λ c. search needs)
+    (λ c. search needs)
+    (λ c κs. search needs)
     returns
     returns-2
     returns-3

@@ -6,57 +6,6 @@ use borrow.Author.Needs.{needs}
 use Rattle.isa.proofs.decoder.group_word.Statement.{statement}
 use Rattle.isa.proofs.decoder.group_word.Tie as tie
 
-mul-p : tie.Need-mul-p
-mul-p c = search needs
-
-add-p : tie.Need-add-p
-add-p c = search needs
-
-cast-p : tie.Need-cast-p
-cast-p c = search needs
-
-cast-x : tie.Need-cast-x
-cast-x c = search needs
-
-fixed-requires : tie.Need-fixed-requires
-fixed-requires c κs = search needs
-
-fixed-requires-2 : tie.Need-fixed-requires-2
-fixed-requires-2 c κs = search needs
-
-fixed-requires-3 : tie.Need-fixed-requires-3
-fixed-requires-3 c κs = search needs
-
-fixed-requires-4 : tie.Need-fixed-requires-4
-fixed-requires-4 c κs = search needs
-
-fixed-requires-5 : tie.Need-fixed-requires-5
-fixed-requires-5 c κs = search needs
-
-fixed-requires-6 : tie.Need-fixed-requires-6
-fixed-requires-6 c κs = search needs
-
-fixed-requires-7 : tie.Need-fixed-requires-7
-fixed-requires-7 c κs = search needs
-
-fixed-requires-8 : tie.Need-fixed-requires-8
-fixed-requires-8 c κs = search needs
-
-fixed-requires-9 : tie.Need-fixed-requires-9
-fixed-requires-9 c κs = search needs
-
-fixed-requires-10 : tie.Need-fixed-requires-10
-fixed-requires-10 c κs = search needs
-
-fixed-requires-11 : tie.Need-fixed-requires-11
-fixed-requires-11 c κs = search needs
-
-fixed-requires-12 : tie.Need-fixed-requires-12
-fixed-requires-12 c κs = search needs
-
-fixed-requires-13 : tie.Need-fixed-requires-13
-fixed-requires-13 c κs = search needs
-
 returns : tie.Need-returns
 unfolding columns
 returns c = let w = c .before .args .word in rw (column-of w, row-of w, c .match .keys1)
@@ -159,23 +108,23 @@ pub group-word-spec : {M : Type 1} → statement M
 group-word-spec =
     tie.close
     (tie.spec
-    mul-p
-    add-p
-    cast-p
-    cast-x
-    fixed-requires
-    fixed-requires-2
-    fixed-requires-3
-    fixed-requires-4
-    fixed-requires-5
-    fixed-requires-6
-    fixed-requires-7
-    fixed-requires-8
-    fixed-requires-9
-    fixed-requires-10
-    fixed-requires-11
-    fixed-requires-12
-    fixed-requires-13
+    (λ c. search needs)
+    (λ c. search needs)
+    (λ c. search needs)
+    (λ c. search needs)
+    (λ c κs. search needs)
+    (λ c κs. search needs)
+    (λ c κs. search needs)
+    (λ c κs. search needs)
+    (λ c κs. search needs)
+    (λ c κs. search needs)
+    (λ c κs. search needs)
+    (λ c κs. search needs)
+    (λ c κs. search needs)
+    (λ c κs. search needs)
+    (λ c κs. search needs)
+    (λ c κs. search needs)
+    (λ c κs. search needs)
     returns
     returns-2
     returns-3

@@ -5,126 +5,6 @@ use borrow.Author.Needs.{needs}
 use Rattle.isa.proofs.encoder.encode.Statement.{statement}
 use Rattle.isa.proofs.encoder.encode.Tie as tie
 
-enum-known-instruction : tie.Need-enum-known-instruction
-enum-known-instruction c = search needs
-
-alu-code-requires : tie.Need-alu-code-requires
-alu-code-requires c κs = search needs
-
-with-address-requires : tie.Need-with-address-requires
-with-address-requires c κs = search needs
-
-enum-known-instruction-2 : tie.Need-enum-known-instruction-2
-enum-known-instruction-2 c = search needs
-
-alu-code-requires-2 : tie.Need-alu-code-requires-2
-alu-code-requires-2 c κs = search needs
-
-add-with-address : tie.Need-add-with-address
-add-with-address c = search needs
-
-with-address-requires-2 : tie.Need-with-address-requires-2
-with-address-requires-2 c κs = search needs
-
-enum-known-instruction-3 : tie.Need-enum-known-instruction-3
-enum-known-instruction-3 c = search needs
-
-skip-code-requires : tie.Need-skip-code-requires
-skip-code-requires c κs = search needs
-
-with-address-requires-3 : tie.Need-with-address-requires-3
-with-address-requires-3 c κs = search needs
-
-enum-known-instruction-4 : tie.Need-enum-known-instruction-4
-enum-known-instruction-4 c = search needs
-
-with-address-requires-4 : tie.Need-with-address-requires-4
-with-address-requires-4 c κs = search needs
-
-enum-known-instruction-5 : tie.Need-enum-known-instruction-5
-enum-known-instruction-5 c = search needs
-
-with-address-requires-5 : tie.Need-with-address-requires-5
-with-address-requires-5 c κs = search needs
-
-enum-known-instruction-6 : tie.Need-enum-known-instruction-6
-enum-known-instruction-6 c = search needs
-
-with-address-requires-6 : tie.Need-with-address-requires-6
-with-address-requires-6 c κs = search needs
-
-enum-known-instruction-7 : tie.Need-enum-known-instruction-7
-enum-known-instruction-7 c = search needs
-
-with-address-requires-7 : tie.Need-with-address-requires-7
-with-address-requires-7 c κs = search needs
-
-enum-known-instruction-8 : tie.Need-enum-known-instruction-8
-enum-known-instruction-8 c = search needs
-
-with-address-requires-8 : tie.Need-with-address-requires-8
-with-address-requires-8 c κs = search needs
-
-enum-known-instruction-9 : tie.Need-enum-known-instruction-9
-enum-known-instruction-9 c = search needs
-
-with-address-requires-9 : tie.Need-with-address-requires-9
-with-address-requires-9 c κs = search needs
-
-enum-known-instruction-10 : tie.Need-enum-known-instruction-10
-enum-known-instruction-10 c = search needs
-
-around-requires : tie.Need-around-requires
-around-requires c κs = search needs
-
-enum-known-instruction-11 : tie.Need-enum-known-instruction-11
-enum-known-instruction-11 c = search needs
-
-around-requires-2 : tie.Need-around-requires-2
-around-requires-2 c κs = search needs
-
-enum-known-instruction-12 : tie.Need-enum-known-instruction-12
-enum-known-instruction-12 c = search needs
-
-around-requires-3 : tie.Need-around-requires-3
-around-requires-3 c κs = search needs
-
-enum-known-instruction-13 : tie.Need-enum-known-instruction-13
-enum-known-instruction-13 c = search needs
-
-around-requires-4 : tie.Need-around-requires-4
-around-requires-4 c κs = search needs
-
-enum-known-instruction-14 : tie.Need-enum-known-instruction-14
-enum-known-instruction-14 c = search needs
-
-with-target-requires : tie.Need-with-target-requires
-with-target-requires c κs = search needs
-
-enum-known-instruction-15 : tie.Need-enum-known-instruction-15
-enum-known-instruction-15 c = search needs
-
-with-target-requires-2 : tie.Need-with-target-requires-2
-with-target-requires-2 c κs = search needs
-
-enum-known-instruction-16 : tie.Need-enum-known-instruction-16
-enum-known-instruction-16 c = search needs
-
-with-address-requires-10 : tie.Need-with-address-requires-10
-with-address-requires-10 c κs = search needs
-
-enum-known-instruction-17 : tie.Need-enum-known-instruction-17
-enum-known-instruction-17 c = search needs
-
-with-address-requires-11 : tie.Need-with-address-requires-11
-with-address-requires-11 c κs = search needs
-
-enum-known-instruction-18 : tie.Need-enum-known-instruction-18
-enum-known-instruction-18 c = search needs
-
-fixed-requires : tie.Need-fixed-requires
-fixed-requires c κs = search needs
-
 returns : tie.Need-returns
 unfolding encodeOf fits
 returns c = rw (c .before .before .before .instruction .given .1, register, ← c .before .alu-code .ensures .0) (c .with-address .ensures)
@@ -201,46 +81,46 @@ pub encode-spec : {M : Type 1} → statement M
 encode-spec =
     tie.close
     (tie.spec
-    enum-known-instruction
-    alu-code-requires
-    with-address-requires
-    enum-known-instruction-2
-    alu-code-requires-2
-    add-with-address
-    with-address-requires-2
-    enum-known-instruction-3
-    skip-code-requires
-    with-address-requires-3
-    enum-known-instruction-4
-    with-address-requires-4
-    enum-known-instruction-5
-    with-address-requires-5
-    enum-known-instruction-6
-    with-address-requires-6
-    enum-known-instruction-7
-    with-address-requires-7
-    enum-known-instruction-8
-    with-address-requires-8
-    enum-known-instruction-9
-    with-address-requires-9
-    enum-known-instruction-10
-    around-requires
-    enum-known-instruction-11
-    around-requires-2
-    enum-known-instruction-12
-    around-requires-3
-    enum-known-instruction-13
-    around-requires-4
-    enum-known-instruction-14
-    with-target-requires
-    enum-known-instruction-15
-    with-target-requires-2
-    enum-known-instruction-16
-    with-address-requires-10
-    enum-known-instruction-17
-    with-address-requires-11
-    enum-known-instruction-18
-    fixed-requires
+    (λ c. search needs)
+    (λ c κs. search needs)
+    (λ c κs. search needs)
+    (λ c. search needs)
+    (λ c κs. search needs)
+    (λ c. search needs)
+    (λ c κs. search needs)
+    (λ c. search needs)
+    (λ c κs. search needs)
+    (λ c κs. search needs)
+    (λ c. search needs)
+    (λ c κs. search needs)
+    (λ c. search needs)
+    (λ c κs. search needs)
+    (λ c. search needs)
+    (λ c κs. search needs)
+    (λ c. search needs)
+    (λ c κs. search needs)
+    (λ c. search needs)
+    (λ c κs. search needs)
+    (λ c. search needs)
+    (λ c κs. search needs)
+    (λ c. search needs)
+    (λ c κs. search needs)
+    (λ c. search needs)
+    (λ c κs. search needs)
+    (λ c. search needs)
+    (λ c κs. search needs)
+    (λ c. search needs)
+    (λ c κs. search needs)
+    (λ c. search needs)
+    (λ c κs. search needs)
+    (λ c. search needs)
+    (λ c κs. search needs)
+    (λ c. search needs)
+    (λ c κs. search needs)
+    (λ c. search needs)
+    (λ c κs. search needs)
+    (λ c. search needs)
+    (λ c κs. search needs)
     returns
     returns-2
     returns-3

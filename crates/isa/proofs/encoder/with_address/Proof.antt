@@ -11,20 +11,8 @@ returns c = simp (le-ltb _ _ (c .if1 .taken))
 returns-2 : tie.Need-returns-2
 returns-2 c = simp (le-ltb _ _ (c .if2 .taken), and-false)
 
-mul-t5 : tie.Need-mul-t5
-mul-t5 c = search needs
-
-mul-t7 : tie.Need-mul-t7
-mul-t7 c = search needs
-
-add-t8 : tie.Need-add-t8
-add-t8 c = search needs
-
-add-t10 : tie.Need-add-t10
-add-t10 c = search needs
-
 returns-3 : tie.Need-returns-3
 returns-3 c = simp (lt-ltb _ _ (c .before .if1 .left), lt-ltb _ _ (c .if2 .left), side-by-side)
 
 pub with-address-spec : {M : Type 1} → statement M
-with-address-spec = tie.close (tie.spec returns returns-2 mul-t5 mul-t7 add-t8 add-t10 returns-3)
+with-address-spec = tie.close (tie.spec returns returns-2 (λ c. search needs) (λ c. search needs) (λ c. search needs) (λ c. search needs) returns-3)

@@ -6,14 +6,8 @@ use Rattle.isa.proofs.encoder.with_target.Tie as tie
 returns : tie.Need-returns
 returns c = simp (le-ltb _ _ (c .if1 .taken))
 
-mul-t4 : tie.Need-mul-t4
-mul-t4 c = search needs
-
-add-t5 : tie.Need-add-t5
-add-t5 c = search needs
-
 returns-2 : tie.Need-returns-2
 returns-2 c = simp (lt-ltb _ _ (c .if1 .left))
 
 pub with-target-spec : {M : Type 1} → statement M
-with-target-spec = tie.close (tie.spec returns mul-t4 add-t5 returns-2)
+with-target-spec = tie.close (tie.spec returns (λ c. search needs) (λ c. search needs) returns-2)

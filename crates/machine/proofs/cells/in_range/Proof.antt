@@ -8,16 +8,10 @@ use Rattle.machine.proofs.Split.{split}
 use Rattle.machine.proofs.cells.in_range.Statement.{statement}
 use Rattle.machine.proofs.cells.in_range.Tie as tie
 
-all-nibbles-requires : tie.Need-all-nibbles-requires
-all-nibbles-requires c κs = search needs
-
 returns : tie.Need-returns
 returns c =
     let cells = c .before .before .args .cells .now in
     ap (λ (b : Bool). b && fixedInRange upd17132 cells) (sym (sym (c .before .all-nibbles .ensures) ∙ not-true _ (c .if1 .taken))) ∙ split cells
-
-fixed-bits-requires : tie.Need-fixed-bits-requires
-fixed-bits-requires c κs = search needs
 
 returns-2 : tie.Need-returns-2
 returns-2 c =
@@ -27,4 +21,4 @@ returns-2 c =
     ∙ split cells
 
 pub in-range-spec : {M : Type 1} → statement M
-in-range-spec = tie.close (tie.spec all-nibbles-requires returns fixed-bits-requires returns-2)
+in-range-spec = tie.close (tie.spec (λ c κs. search needs) returns (λ c κs. search needs) returns-2)

@@ -5,15 +5,9 @@ use borrow.Author.Needs.{needs}
 use Rattle.machine.proofs.ranges.input.Statement.{statement}
 use Rattle.machine.proofs.ranges.input.Tie as tie
 
-are-nibbles-requires : tie.Need-are-nibbles-requires
-are-nibbles-requires c κs = search needs
-
 returns : tie.Need-returns
 unfolding inputInRange
 returns c = simp (sym (c .before .are-nibbles .ensures) ∙ not-true _ (c .if1 .taken))
-
-are-nibbles-requires-2 : tie.Need-are-nibbles-requires-2
-are-nibbles-requires-2 c κs = search needs
 
 returns-2 : tie.Need-returns-2
 unfolding inputInRange
@@ -24,4 +18,4 @@ unfolding inputInRange
 returns-3 c = simp (sym (c .before .before .before .before .before .are-nibbles .ensures) ∙ not-false _ (c .before .before .before .before .if1 .left), sym (c .before .before .are-nibbles2 .ensures) ∙ not-false _ (c .before .if2 .left))
 
 pub input-spec : {M : Type 1} → statement M
-input-spec = tie.close (tie.spec are-nibbles-requires returns are-nibbles-requires-2 returns-2 returns-3)
+input-spec = tie.close (tie.spec (λ c κs. search needs) returns (λ c κs. search needs) returns-2 returns-3)

@@ -13,9 +13,6 @@ returns : tie.Need-returns
 unfolding isSet
 returns c = rw (← no-cell (c .before .args .cells .now) (c .before .args .at) (c .if1 .taken))
 
-element-copy-out-result : tie.Need-element-copy-out-result
-element-copy-out-result c = search needs
-
 returns-2 : tie.Need-returns-2
 unfolding isSet
 returns-2 c =
@@ -23,4 +20,4 @@ returns-2 c =
     ap (λ (x : ℕ). not (eqb (bitAnd x (s .flag)) 0)) (some-cell (s .cells .now) (s .at) (c .before .if1 .left))
 
 pub is-set-spec : {M : Type 1} → statement M
-is-set-spec = tie.close (tie.spec returns element-copy-out-result returns-2)
+is-set-spec = tie.close (tie.spec returns (λ c. search needs) returns-2)

@@ -16,26 +16,8 @@ Inv-loop at v cells kept next₀ left₀ i₀ next left i = (i ≤ 128) × ((lef
 abbrev μ-loop : tie.MeasureT-loop
 μ-loop at v cells kept next₀ left₀ i₀ next left i = 128 - i
 
-mask-requires : tie.Need-mask-requires Inv-loop μ-loop
-mask-requires c κs = search needs
-
 loop-holds : tie.Need-loop-holds Inv-loop μ-loop
 loop-holds c = (omega arith, omega arith, search needs, at-first _ (c .before .args .at) (bitAnd (c .before .args .v) (c .mask .result)))
-
-array-read-old : tie.Need-array-read-old Inv-loop μ-loop
-array-read-old c = search needs
-
-array-write-next : tie.Need-array-write-next Inv-loop μ-loop
-array-write-next c = search needs
-
-wrapping-sub-u8-requires : tie.Need-wrapping-sub-u8-requires Inv-loop μ-loop
-wrapping-sub-u8-requires c κs = search needs
-
-add-i : tie.Need-add-i Inv-loop μ-loop
-add-i c = search needs
-
-loop-less : tie.Need-loop-less Inv-loop μ-loop
-loop-less c = search needs
 
 loop-again : tie.Need-loop-again Inv-loop μ-loop
 loop-again c =
@@ -65,12 +47,12 @@ write-spec =
     (tie.spec
     Inv-loop
     μ-loop
-    mask-requires
+    (λ c κs. search needs)
     loop-holds
-    array-read-old
-    array-write-next
-    wrapping-sub-u8-requires
-    add-i
-    loop-less
+    (λ c. search needs)
+    (λ c. search needs)
+    (λ c κs. search needs)
+    (λ c. search needs)
+    (λ c. search needs)
     loop-again
     returns)

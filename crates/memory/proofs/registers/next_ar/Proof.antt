@@ -3,11 +3,8 @@ use Rattle.laws.proofs.Wrap.{cut}
 use Rattle.memory.proofs.registers.next_ar.Statement.{statement}
 use Rattle.memory.proofs.registers.next_ar.Tie as tie
 
-wrapping-add-u16-requires : tie.Need-wrapping-add-u16-requires
-wrapping-add-u16-requires c κs = search needs
-
 returns : tie.Need-returns
 returns c = rw (c .wrapping-add-u16 .ensures) (cut 10 _ 6)
 
 pub next-ar-spec : {M : Type 1} → statement M
-next-ar-spec = tie.close (tie.spec wrapping-add-u16-requires returns)
+next-ar-spec = tie.close (tie.spec (λ c κs. search needs) returns)

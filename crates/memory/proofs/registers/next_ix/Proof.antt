@@ -3,11 +3,8 @@ use Rattle.laws.proofs.Wrap.{cut}
 use Rattle.memory.proofs.registers.next_ix.Statement.{statement}
 use Rattle.memory.proofs.registers.next_ix.Tie as tie
 
-wrapping-add-u8-requires : tie.Need-wrapping-add-u8-requires
-wrapping-add-u8-requires c κs = search needs
-
 returns : tie.Need-returns
 returns c = rw (c .wrapping-add-u8 .ensures) (cut 7 _ 1)
 
 pub next-ix-spec : {M : Type 1} → statement M
-next-ix-spec = tie.close (tie.spec wrapping-add-u8-requires returns)
+next-ix-spec = tie.close (tie.spec (λ c κs. search needs) returns)

@@ -3,156 +3,6 @@ use borrow.Author.Needs.{needs}
 use Rattle.operations.proofs.operands.locate.Statement.{statement}
 use Rattle.operations.proofs.operands.locate.Tie as tie
 
-enum-known-instruction : tie.Need-enum-known-instruction
-enum-known-instruction c = search needs
-
-register-requires : tie.Need-register-requires
-register-requires c κs = search needs
-
-address-requires : tie.Need-address-requires
-address-requires c κs = search needs
-
-both-requires : tie.Need-both-requires
-both-requires c κs = search needs
-
-enum-known-instruction-2 : tie.Need-enum-known-instruction-2
-enum-known-instruction-2 c = search needs
-
-address-requires-2 : tie.Need-address-requires-2
-address-requires-2 c κs = search needs
-
-both-requires-2 : tie.Need-both-requires-2
-both-requires-2 c κs = search needs
-
-enum-known-instruction-3 : tie.Need-enum-known-instruction-3
-enum-known-instruction-3 c = search needs
-
-address-requires-3 : tie.Need-address-requires-3
-address-requires-3 c κs = search needs
-
-both-requires-3 : tie.Need-both-requires-3
-both-requires-3 c κs = search needs
-
-enum-known-instruction-4 : tie.Need-enum-known-instruction-4
-enum-known-instruction-4 c = search needs
-
-register-requires-2 : tie.Need-register-requires-2
-register-requires-2 c κs = search needs
-
-both-requires-4 : tie.Need-both-requires-4
-both-requires-4 c κs = search needs
-
-enum-known-instruction-5 : tie.Need-enum-known-instruction-5
-enum-known-instruction-5 c = search needs
-
-register-requires-3 : tie.Need-register-requires-3
-register-requires-3 c κs = search needs
-
-address-requires-4 : tie.Need-address-requires-4
-address-requires-4 c κs = search needs
-
-both-requires-5 : tie.Need-both-requires-5
-both-requires-5 c κs = search needs
-
-enum-known-instruction-6 : tie.Need-enum-known-instruction-6
-enum-known-instruction-6 c = search needs
-
-address-requires-5 : tie.Need-address-requires-5
-address-requires-5 c κs = search needs
-
-register-requires-4 : tie.Need-register-requires-4
-register-requires-4 c κs = search needs
-
-both-requires-6 : tie.Need-both-requires-6
-both-requires-6 c κs = search needs
-
-enum-known-instruction-7 : tie.Need-enum-known-instruction-7
-enum-known-instruction-7 c = search needs
-
-pointer-requires : tie.Need-pointer-requires
-pointer-requires c κs = search needs
-
-address-requires-6 : tie.Need-address-requires-6
-address-requires-6 c κs = search needs
-
-both-requires-7 : tie.Need-both-requires-7
-both-requires-7 c κs = search needs
-
-enum-known-instruction-8 : tie.Need-enum-known-instruction-8
-enum-known-instruction-8 c = search needs
-
-address-requires-7 : tie.Need-address-requires-7
-address-requires-7 c κs = search needs
-
-pointer-requires-2 : tie.Need-pointer-requires-2
-pointer-requires-2 c κs = search needs
-
-both-requires-8 : tie.Need-both-requires-8
-both-requires-8 c κs = search needs
-
-enum-known-instruction-9 : tie.Need-enum-known-instruction-9
-enum-known-instruction-9 c = search needs
-
-address-requires-8 : tie.Need-address-requires-8
-address-requires-8 c κs = search needs
-
-both-requires-9 : tie.Need-both-requires-9
-both-requires-9 c κs = search needs
-
-enum-told : tie.Need-enum-told
-enum-told c = search needs
-
-no-operands-requires : tie.Need-no-operands-requires
-no-operands-requires c κs = search needs
-
-enum-told-2 : tie.Need-enum-told-2
-enum-told-2 c = search needs
-
-no-operands-requires-2 : tie.Need-no-operands-requires-2
-no-operands-requires-2 c κs = search needs
-
-enum-told-3 : tie.Need-enum-told-3
-enum-told-3 c = search needs
-
-no-operands-requires-3 : tie.Need-no-operands-requires-3
-no-operands-requires-3 c κs = search needs
-
-enum-told-4 : tie.Need-enum-told-4
-enum-told-4 c = search needs
-
-no-operands-requires-4 : tie.Need-no-operands-requires-4
-no-operands-requires-4 c κs = search needs
-
-enum-told-5 : tie.Need-enum-told-5
-enum-told-5 c = search needs
-
-no-operands-requires-5 : tie.Need-no-operands-requires-5
-no-operands-requires-5 c κs = search needs
-
-enum-told-6 : tie.Need-enum-told-6
-enum-told-6 c = search needs
-
-no-operands-requires-6 : tie.Need-no-operands-requires-6
-no-operands-requires-6 c κs = search needs
-
-enum-told-7 : tie.Need-enum-told-7
-enum-told-7 c = search needs
-
-no-operands-requires-7 : tie.Need-no-operands-requires-7
-no-operands-requires-7 c κs = search needs
-
-enum-told-8 : tie.Need-enum-told-8
-enum-told-8 c = search needs
-
-no-operands-requires-8 : tie.Need-no-operands-requires-8
-no-operands-requires-8 c κs = search needs
-
-enum-told-9 : tie.Need-enum-told-9
-enum-told-9 c = search needs
-
-no-operands-requires-9 : tie.Need-no-operands-requires-9
-no-operands-requires-9 c κs = search needs
-
 returns : tie.Need-returns
 unfolding addressesOf addressIn
 returns c = rw (c .before .before .before .before .instruction .given .1, c .both .ensures, c .before .address .ensures, c .before .before .register .ensures)
@@ -229,56 +79,56 @@ pub locate-spec : {M : Type 1} → statement M
 locate-spec =
     tie.close
     (tie.spec
-    enum-known-instruction
-    register-requires
-    address-requires
-    both-requires
-    enum-known-instruction-2
-    address-requires-2
-    both-requires-2
-    enum-known-instruction-3
-    address-requires-3
-    both-requires-3
-    enum-known-instruction-4
-    register-requires-2
-    both-requires-4
-    enum-known-instruction-5
-    register-requires-3
-    address-requires-4
-    both-requires-5
-    enum-known-instruction-6
-    address-requires-5
-    register-requires-4
-    both-requires-6
-    enum-known-instruction-7
-    pointer-requires
-    address-requires-6
-    both-requires-7
-    enum-known-instruction-8
-    address-requires-7
-    pointer-requires-2
-    both-requires-8
-    enum-known-instruction-9
-    address-requires-8
-    both-requires-9
-    enum-told
-    no-operands-requires
-    enum-told-2
-    no-operands-requires-2
-    enum-told-3
-    no-operands-requires-3
-    enum-told-4
-    no-operands-requires-4
-    enum-told-5
-    no-operands-requires-5
-    enum-told-6
-    no-operands-requires-6
-    enum-told-7
-    no-operands-requires-7
-    enum-told-8
-    no-operands-requires-8
-    enum-told-9
-    no-operands-requires-9
+    (λ c. search needs)
+    (λ c κs. search needs)
+    (λ c κs. search needs)
+    (λ c κs. search needs)
+    (λ c. search needs)
+    (λ c κs. search needs)
+    (λ c κs. search needs)
+    (λ c. search needs)
+    (λ c κs. search needs)
+    (λ c κs. search needs)
+    (λ c. search needs)
+    (λ c κs. search needs)
+    (λ c κs. search needs)
+    (λ c. search needs)
+    (λ c κs. search needs)
+    (λ c κs. search needs)
+    (λ c κs. search needs)
+    (λ c. search needs)
+    (λ c κs. search needs)
+    (λ c κs. search needs)
+    (λ c κs. search needs)
+    (λ c. search needs)
+    (λ c κs. search needs)
+    (λ c κs. search needs)
+    (λ c κs. search needs)
+    (λ c. search needs)
+    (λ c κs. search needs)
+    (λ c κs. search needs)
+    (λ c κs. search needs)
+    (λ c. search needs)
+    (λ c κs. search needs)
+    (λ c κs. search needs)
+    (λ c. search needs)
+    (λ c κs. search needs)
+    (λ c. search needs)
+    (λ c κs. search needs)
+    (λ c. search needs)
+    (λ c κs. search needs)
+    (λ c. search needs)
+    (λ c κs. search needs)
+    (λ c. search needs)
+    (λ c κs. search needs)
+    (λ c. search needs)
+    (λ c κs. search needs)
+    (λ c. search needs)
+    (λ c κs. search needs)
+    (λ c. search needs)
+    (λ c κs. search needs)
+    (λ c. search needs)
+    (λ c κs. search needs)
     returns
     returns-2
     returns-3

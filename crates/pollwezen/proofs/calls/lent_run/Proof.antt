@@ -4,14 +4,8 @@ use Rattle.pollwezen.specs.Lent.{lentRunOf}
 use Rattle.pollwezen.proofs.calls.lent_run.Statement.{statement}
 use Rattle.pollwezen.proofs.calls.lent_run.Tie as tie
 
-run-requires : tie.Need-run-requires
-run-requires c κs = search needs
-
-number-requires : tie.Need-number-requires
-number-requires c κs = search needs
-
 returns : tie.Need-returns
 returns c = rw (c .number .ensures) (ap lentRunOf (c .before .before .run .ensures))
 
 pub lent-run-spec : {M : Type 1} → statement M
-lent-run-spec = tie.close (tie.spec run-requires number-requires returns)
+lent-run-spec = tie.close (tie.spec (λ c κs. search needs) (λ c κs. search needs) returns)

@@ -10,12 +10,9 @@ returns : tie.Need-returns
 unfolding sharesAny
 returns c = sym (getD-past (c .before .args .t1) (c .before .args .entry) false (search needs))
 
-array-read-result : tie.Need-array-read-result
-array-read-result c = search needs
-
 returns-2 : tie.Need-returns-2
 unfolding sharesAny
 returns-2 c = refl
 
 pub shares-any-spec : {M : Type 1} → statement M
-shares-any-spec = tie.close (tie.spec returns array-read-result returns-2)
+shares-any-spec = tie.close (tie.spec returns (λ c. search needs) returns-2)

@@ -7,9 +7,6 @@ use Rattle.sheet.specs.Depths.{withDepths}
 use Rattle.sheet.proofs.depths.with_depths.Statement.{statement}
 use Rattle.sheet.proofs.depths.with_depths.Tie as tie
 
-reached-requires : tie.Need-reached-requires
-reached-requires c κs = search needs
-
 returns : tie.Need-returns
 unfolding withDepths
 returns c = simp (sym (c .before .reached .ensures) ∙ not-true _ (c .if1 .taken))
@@ -20,12 +17,9 @@ returns-2 c =
     let s = c .before .before .before in
     rw (sym (c .before .before .reached .ensures) ∙ not-false _ (c .before .if1 .left)) (sym (set-out (s .args .table) (s .args .entry) true (search needs)))
 
-array-write-more : tie.Need-array-write-more
-array-write-more c = search needs
-
 returns-3 : tie.Need-returns-3
 unfolding withDepths
 returns-3 c = simp (sym (c .before .before .reached .ensures) ∙ not-false _ (c .before .if1 .left))
 
 pub with-depths-spec : {M : Type 1} → statement M
-with-depths-spec = tie.close (tie.spec reached-requires returns returns-2 array-write-more returns-3)
+with-depths-spec = tie.close (tie.spec (λ c κs. search needs) returns returns-2 (λ c. search needs) returns-3)

@@ -5,9 +5,6 @@ use Rattle.sheet.specs.Entry.{covers}
 use Rattle.sheet.proofs.entry.covers.Statement.{statement}
 use Rattle.sheet.proofs.entry.covers.Tie as tie
 
-reached-requires : tie.Need-reached-requires
-reached-requires c κs = search needs
-
 returns : tie.Need-returns
 unfolding covers
 returns c = simp (sym (c .before .reached .ensures) ∙ not-true _ (c .if1 .taken))
@@ -17,4 +14,4 @@ unfolding covers
 returns-2 c = simp (sym (c .before .reached .ensures) ∙ not-false _ (c .if1 .left))
 
 pub covers-spec : {M : Type 1} → statement M
-covers-spec = tie.close (tie.spec reached-requires returns returns-2)
+covers-spec = tie.close (tie.spec (λ c κs. search needs) returns returns-2)

@@ -9,12 +9,9 @@ returns : tie.Need-returns
 unfolding entryAt
 returns c = sym (getD-past (c .before .args .sheet .now) (c .before .args .word) 15 (c .if1 .taken))
 
-shared-slice-read-result : tie.Need-shared-slice-read-result
-shared-slice-read-result c = search needs
-
 returns-2 : tie.Need-returns-2
 unfolding entryAt
 returns-2 c = getD-inside (c .before .before .args .sheet .now) (c .before .before .args .word) 0 15 (c .before .if1 .left)
 
 pub entry-at-spec : {M : Type 1} → statement M
-entry-at-spec = tie.close (tie.spec returns shared-slice-read-result returns-2)
+entry-at-spec = tie.close (tie.spec returns (λ c. search needs) returns-2)

@@ -5,9 +5,6 @@ use Rattle.sheet.specs.Entry.{holds}
 use Rattle.sheet.proofs.entry.holds.Statement.{statement}
 use Rattle.sheet.proofs.entry.holds.Tie as tie
 
-reached-requires : tie.Need-reached-requires
-reached-requires c κs = search needs
-
 returns : tie.Need-returns
 unfolding holds
 returns c = simp (sym (c .before .reached .ensures) ∙ not-true _ (c .if1 .taken))
@@ -17,4 +14,4 @@ unfolding holds
 returns-2 c = simp (sym (c .before .reached .ensures) ∙ not-false _ (c .if1 .left))
 
 pub holds-spec : {M : Type 1} → statement M
-holds-spec = tie.close (tie.spec reached-requires returns returns-2)
+holds-spec = tie.close (tie.spec (λ c κs. search needs) returns returns-2)

@@ -8,12 +8,9 @@ returns : tie.Need-returns
 unfolding raisedByte atMost
 returns c = simp (lt-leb _ _ (c .if1 .taken))
 
-add-result : tie.Need-add-result
-add-result c = search needs
-
 returns-2 : tie.Need-returns-2
 unfolding raisedByte atMost raised
 returns-2 c = simp (le-leb _ _ (c .if1 .left))
 
 pub raised-spec : {M : Type 1} → statement M
-raised-spec = tie.close (tie.spec returns add-result returns-2)
+raised-spec = tie.close (tie.spec returns (λ c. search needs) returns-2)

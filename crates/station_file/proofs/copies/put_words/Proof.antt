@@ -1,6 +1,6 @@
 use borrow.Author.Needs.{needs}
 use Rattle.station_file.proofs.Splices.{splice-none, put-word}
-use Rattle.station_file.specs.Inside.{splice}
+use Rattle.station_file.specs.Places.{splice}
 use Rattle.station_file.specs.Write.{wordBytes}
 use lib.Seq.{take-length}
 use lib.ListN.{length, take}
@@ -20,26 +20,8 @@ abbrev μ-loop : tie.MeasureT-loop
 loop-holds : tie.Need-loop-holds Inv-loop μ-loop
 loop-holds c = (search needs, search needs, refl, splice-none (c .before .before .args .at) (c .before .before .args .out .now))
 
-mul-put-number : tie.Need-mul-put-number Inv-loop μ-loop
-mul-put-number c = search needs
-
-shared-slice-read-put-number : tie.Need-shared-slice-read-put-number Inv-loop μ-loop
-shared-slice-read-put-number c = search needs
-
 cast-put-number : tie.Need-cast-put-number Inv-loop μ-loop
 cast-put-number c = omega (arith, c .shared-slice-known2 .given (c .before .before .loop .index))
-
-put-number-requires : tie.Need-put-number-requires Inv-loop μ-loop
-put-number-requires c κs = search needs
-
-add-index : tie.Need-add-index Inv-loop μ-loop
-add-index c = search needs
-
-add-next : tie.Need-add-next Inv-loop μ-loop
-add-next c = search needs
-
-loop-less : tie.Need-loop-less Inv-loop μ-loop
-loop-less c = search needs
 
 loop-again : tie.Need-loop-again Inv-loop μ-loop
 loop-again c =
@@ -65,17 +47,5 @@ returns c =
 pub put-words-spec : {M : Type 1} → statement M
 put-words-spec =
     tie.close
-    (tie.spec
-    Inv-loop
-    μ-loop
-    loop-holds
-    mul-put-number
-    shared-slice-read-put-number
-    cast-put-number
-    put-number-requires
-    add-index
-    add-next
-    loop-less
-    loop-again
-    same-length
-    returns)
+    (tie.spec Inv-loop μ-loop loop-holds (λ c. search needs) (λ c. search needs) cast-put-number (λ c κs. search needs)
+    (λ c. search needs) (λ c. search needs) (λ c. search needs) loop-again same-length returns)

@@ -1,6 +1,6 @@
 use borrow.Author.Needs.{needs}
 use Rattle.station_file.proofs.Filled.{word-filled}
-use Rattle.station_file.specs.Inside.{words}
+use Rattle.station_file.specs.Places.{words}
 use Rattle.station_file.specs.Read.{overlay}
 use lib.ListN.{length-set}
 use lib.ListN.{length, drop}
@@ -18,33 +18,6 @@ abbrev μ-loop : tie.MeasureT-loop
 
 loop-holds : tie.Need-loop-holds Inv-loop μ-loop
 loop-holds c = (search needs, search needs, refl, refl)
-
-shared-slice-read-word : tie.Need-shared-slice-read-word Inv-loop μ-loop
-shared-slice-read-word c = search needs
-
-add-word : tie.Need-add-word Inv-loop μ-loop
-add-word c = search needs
-
-shared-slice-read-word-2 : tie.Need-shared-slice-read-word-2 Inv-loop μ-loop
-shared-slice-read-word-2 c = search needs
-
-word-requires : tie.Need-word-requires Inv-loop μ-loop
-word-requires c κs = search needs
-
-mul-rom : tie.Need-mul-rom Inv-loop μ-loop
-mul-rom c = search needs
-
-slice-write-rom : tie.Need-slice-write-rom Inv-loop μ-loop
-slice-write-rom c = search needs
-
-add-index : tie.Need-add-index Inv-loop μ-loop
-add-index c = search needs
-
-add-next : tie.Need-add-next Inv-loop μ-loop
-add-next c = search needs
-
-loop-less : tie.Need-loop-less Inv-loop μ-loop
-loop-less c = search needs
 
 loop-again : tie.Need-loop-again Inv-loop μ-loop
 loop-again c =
@@ -65,19 +38,6 @@ returns c =
 pub read-words-spec : {M : Type 1} → statement M
 read-words-spec =
     tie.close
-    (tie.spec
-    Inv-loop
-    μ-loop
-    loop-holds
-    shared-slice-read-word
-    add-word
-    shared-slice-read-word-2
-    word-requires
-    mul-rom
-    slice-write-rom
-    add-index
-    add-next
-    loop-less
-    loop-again
-    same-length
+    (tie.spec Inv-loop μ-loop loop-holds (λ c. search needs) (λ c. search needs) (λ c. search needs) (λ c κs. search needs)
+    (λ c. search needs) (λ c. search needs) (λ c. search needs) (λ c. search needs) (λ c. search needs) loop-again same-length
     returns)

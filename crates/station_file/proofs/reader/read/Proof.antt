@@ -1,32 +1,17 @@
-use Rattle.station_file.proofs.Placing.{denies, inside, rom-full, sheet-full, inputs-full, fills}
-use Rattle.station_file.specs.Inside.{formOf}
+use Rattle.station_file.proofs.Placing.{refuses, inside, rom-full, sheet-full, inputs-full, fills}
+use Rattle.station_file.specs.Places.{formOf}
 use Rattle.station_file.specs.Answers.{buffersOf}
 use native.Mathlib.Omega.{arith}
 use borrow.Author.Needs.{needs}
 use Rattle.station_file.proofs.reader.read.Statement.{statement}
 use Rattle.station_file.proofs.reader.read.Tie as tie
 
-form-1-requires : tie.Need-form-1-requires
-form-1-requires c κs = search needs
-
-parse-requires : tie.Need-parse-requires
-parse-requires c κs = search needs
-
-enum-known-layout : tie.Need-enum-known-layout
-enum-known-layout c = search needs
-
-enum-told : tie.Need-enum-told
-enum-told c = search needs
-
-layout-fault-requires : tie.Need-layout-fault-requires
-layout-fault-requires c κs = search needs
-
 returns : tie.Need-returns
 returns c =
     let a = c .before .before .before .before .before .before .before .before .before .args in
     let q = c .before .before .before .before .form-1 in
     let p = c .before .before .before .parse in
-    denies (formOf (q .result)) (q .ensures) (a .file .now) (p .result) (p .ensures .0) (buffersOf (a .rom .now) (a .sheet .now) (a .inputs .now)) (c .layout-fault .result) (c .before .enum-told .given .0 .0) (c .before .enum-told .given .1) (c .layout-fault .ensures)
+    refuses (formOf (q .result)) (q .ensures) (a .file .now) (p .result) (p .ensures .0) (buffersOf (a .rom .now) (a .sheet .now) (a .inputs .now)) (c .layout-refusal .result) (c .before .enum-told .given .0 .0) (c .before .enum-told .given .1) (c .layout-refusal .ensures)
 
 mul-bytes : tie.Need-mul-bytes
 mul-bytes c =
@@ -85,15 +70,6 @@ copy-bytes-requires-2 c κs =
     let g = c .before .before .before .before .before .before .before .before .before .before .before .before .before .layout .given in
     (inside (formOf (q .result)) (q .ensures) (a .file .now) (p .result) (p .ensures .0) (g .0 .0) (g .0 .1 .0) (g .0 .1 .1 .0) (g .0 .1 .1 .1 .0) (g .0 .1 .1 .1 .1 .0) (g .0 .1 .1 .1 .1 .1 .0) (g .1) (p .ensures .1) .2, omega (arith, c .before .before .before .before .before .before .before .before .before .if3 .left))
 
-same-length : tie.Need-same-length
-same-length c = search needs
-
-same-length-2 : tie.Need-same-length-2
-same-length-2 c = search needs
-
-same-length-3 : tie.Need-same-length-3
-same-length-3 c = search needs
-
 returns-5 : tie.Need-returns-5
 returns-5 c =
     let a = c .before .before .before .before .before .before .before .before .before .before .before .before .before .before .before .before .before .before .before .before .before .before .before .before .args in
@@ -108,21 +84,6 @@ returns-5 c =
 pub read-spec : {M : Type 1} → statement M
 read-spec =
     tie.close
-    (tie.spec
-    form-1-requires
-    parse-requires
-    enum-known-layout
-    enum-told
-    layout-fault-requires
-    returns
-    mul-bytes
-    returns-2
-    returns-3
-    returns-4
-    read-words-requires
-    copy-bytes-requires
-    copy-bytes-requires-2
-    same-length
-    same-length-2
-    same-length-3
-    returns-5)
+    (tie.spec (λ c κs. search needs) (λ c κs. search needs) (λ c. search needs) (λ c. search needs) (λ c κs. search needs)
+    returns mul-bytes returns-2 returns-3 returns-4 read-words-requires copy-bytes-requires copy-bytes-requires-2
+    (λ c. search needs) (λ c. search needs) (λ c. search needs) returns-5)

@@ -23,25 +23,10 @@ returns c =
     let l = c .before .before .loop in
     (early-at entryByte _ _ _ _ _ (l .inv .1) (c .before .loop-test .taken) (c .if1 .taken) (l .inv .3), tt)
 
-shared-slice-read-proper : tie.Need-shared-slice-read-proper Inv-loop μ-loop
-shared-slice-read-proper c = search needs
-
-proper-requires : tie.Need-proper-requires Inv-loop μ-loop
-proper-requires c κs = search needs
-
 returns-2 : tie.Need-returns-2 Inv-loop μ-loop
 returns-2 c =
     let l = c .before .before .before .before .before .loop in
     (bad-at entryByte _ _ _ _ _ (l .inv .1) (c .before .before .before .before .loop-test .taken) (c .before .before .before .if1 .left) (sym (c .before .proper .ensures) ∙ not-true _ (c .if2 .taken)) (l .inv .3), tt)
-
-add-index : tie.Need-add-index Inv-loop μ-loop
-add-index c = search needs
-
-add-next : tie.Need-add-next Inv-loop μ-loop
-add-next c = search needs
-
-loop-less : tie.Need-loop-less Inv-loop μ-loop
-loop-less c = search needs
 
 loop-again : tie.Need-loop-again Inv-loop μ-loop
 loop-again c =
@@ -61,16 +46,5 @@ returns-3 c =
 pub entries-spec : {M : Type 1} → statement M
 entries-spec =
     tie.close
-    (tie.spec
-    Inv-loop
-    μ-loop
-    loop-holds
-    returns
-    shared-slice-read-proper
-    proper-requires
-    returns-2
-    add-index
-    add-next
-    loop-less
-    loop-again
-    returns-3)
+    (tie.spec Inv-loop μ-loop loop-holds returns (λ c. search needs) (λ c κs. search needs) returns-2 (λ c. search needs)
+    (λ c. search needs) (λ c. search needs) loop-again returns-3)

@@ -15,12 +15,6 @@ Inv-loop bytes at count index₀ next₀ index next = (index ≤ count) × (next
 abbrev μ-loop : tie.MeasureT-loop
 μ-loop bytes at count index₀ next₀ index next = count - index
 
-good-records-requires : tie.Need-good-records-requires Inv-loop μ-loop
-good-records-requires c κs = search needs
-
-add-next : tie.Need-add-next Inv-loop μ-loop
-add-next c = search needs
-
 loop-holds : tie.Need-loop-holds Inv-loop μ-loop
 loop-holds c =
     let g = c .good-records .ensures in
@@ -31,25 +25,10 @@ returns c =
     let l = c .before .before .loop in
     (early-at inputByte _ _ _ _ _ (l .inv .1) (c .before .loop-test .taken) (c .if1 .taken) (l .inv .3), tt)
 
-shared-slice-read-proper-input : tie.Need-shared-slice-read-proper-input Inv-loop μ-loop
-shared-slice-read-proper-input c = search needs
-
-proper-input-requires : tie.Need-proper-input-requires Inv-loop μ-loop
-proper-input-requires c κs = search needs
-
 returns-2 : tie.Need-returns-2 Inv-loop μ-loop
 returns-2 c =
     let l = c .before .before .before .before .before .loop in
     (bad-at inputByte _ _ _ _ _ (l .inv .1) (c .before .before .before .before .loop-test .taken) (c .before .before .before .if1 .left) (sym (c .before .proper-input .ensures) ∙ not-true _ (c .if2 .taken)) (l .inv .3), tt)
-
-add-index : tie.Need-add-index Inv-loop μ-loop
-add-index c = search needs
-
-add-next-2 : tie.Need-add-next-2 Inv-loop μ-loop
-add-next-2 c = search needs
-
-loop-less : tie.Need-loop-less Inv-loop μ-loop
-loop-less c = search needs
 
 loop-again : tie.Need-loop-again Inv-loop μ-loop
 loop-again c =
@@ -69,18 +48,5 @@ returns-3 c =
 pub inputs-spec : {M : Type 1} → statement M
 inputs-spec =
     tie.close
-    (tie.spec
-    Inv-loop
-    μ-loop
-    good-records-requires
-    add-next
-    loop-holds
-    returns
-    shared-slice-read-proper-input
-    proper-input-requires
-    returns-2
-    add-index
-    add-next-2
-    loop-less
-    loop-again
-    returns-3)
+    (tie.spec Inv-loop μ-loop (λ c κs. search needs) (λ c. search needs) loop-holds returns (λ c. search needs)
+    (λ c κs. search needs) returns-2 (λ c. search needs) (λ c. search needs) (λ c. search needs) loop-again returns-3)

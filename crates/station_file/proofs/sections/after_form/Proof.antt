@@ -1,27 +1,15 @@
 use Rattle.station_file.proofs.Parsing.{rom-fails, sheet-fails, inputs-fail, goes-on, ends, section-fits}
-use Rattle.station_file.specs.Inside.{formOf}
+use Rattle.station_file.specs.Places.{formOf}
 use native.Mathlib.Omega.{arith}
 use borrow.Author.Needs.{needs}
 use Rattle.station_file.proofs.sections.after_form.Statement.{statement}
 use Rattle.station_file.proofs.sections.after_form.Tie as tie
 
-rom-section-requires : tie.Need-rom-section-requires
-rom-section-requires c κs = search needs
-
-enum-known-rom : tie.Need-enum-known-rom
-enum-known-rom c = search needs
-
-enum-told : tie.Need-enum-told
-enum-told c = search needs
-
-section-fault-requires : tie.Need-section-fault-requires
-section-fault-requires c κs = search needs
-
 returns : tie.Need-returns
 returns c =
     let a = c .before .before .before .before .before .args in
     let r = c .before .before .before .rom-section in
-    (rom-fails (formOf (a .form)) (a .file .now) (a .at) (r .result) (r .ensures .0) (c .section-fault .result) (c .before .enum-told .given .0 .0) (c .before .enum-told .given .1) (c .section-fault .ensures), tt)
+    (rom-fails (formOf (a .form)) (a .file .now) (a .at) (r .result) (r .ensures .0) (c .section-refusal .result) (c .before .enum-told .given .0 .0) (c .before .enum-told .given .1) (c .section-refusal .ensures), tt)
 
 sheet-section-requires : tie.Need-sheet-section-requires
 sheet-section-requires c κs =
@@ -30,22 +18,13 @@ sheet-section-requires c κs =
     let g = c .before .rom .given in
     section-fits 2 (a .file .now) (r .result) (g .0 .0) (g .0 .1 .0) (g .0 .1 .1 .0) (g .1) (r .ensures .1) .1
 
-enum-known-sheet : tie.Need-enum-known-sheet
-enum-known-sheet c = search needs
-
-enum-told-2 : tie.Need-enum-told-2
-enum-told-2 c = search needs
-
-section-fault-requires-2 : tie.Need-section-fault-requires-2
-section-fault-requires-2 c κs = search needs
-
 returns-2 : tie.Need-returns-2
 returns-2 c =
     let a = c .before .before .before .before .before .before .before .before .before .args in
     let r = c .before .before .before .before .before .before .before .rom-section in
     let g = c .before .before .before .before .before .rom .given in
     let t = c .before .before .before .sheet-section in
-    (sheet-fails (formOf (a .form)) (a .file .now) (a .at) (r .result) (r .ensures .0) (g .0 .0) (g .0 .1 .0) (g .0 .1 .1 .0) (g .1) (t .result) (t .ensures .0) (c .section-fault2 .result) (c .before .enum-told2 .given .0 .0) (c .before .enum-told2 .given .1) (c .section-fault2 .ensures), tt)
+    (sheet-fails (formOf (a .form)) (a .file .now) (a .at) (r .result) (r .ensures .0) (g .0 .0) (g .0 .1 .0) (g .0 .1 .1 .0) (g .1) (t .result) (t .ensures .0) (c .section-refusal2 .result) (c .before .enum-told2 .given .0 .0) (c .before .enum-told2 .given .1) (c .section-refusal2 .ensures), tt)
 
 input-section-requires : tie.Need-input-section-requires
 input-section-requires c κs =
@@ -56,15 +35,6 @@ input-section-requires c κs =
     let h = c .before .sheet .given in
     section-fits 1 (a .file .now) (t .result) (h .0 .0) (h .0 .1 .0) (h .0 .1 .1 .0) (h .1) (t .ensures .1) .1
 
-enum-known-inputs : tie.Need-enum-known-inputs
-enum-known-inputs c = search needs
-
-enum-told-3 : tie.Need-enum-told-3
-enum-told-3 c = search needs
-
-section-fault-requires-3 : tie.Need-section-fault-requires-3
-section-fault-requires-3 c κs = search needs
-
 returns-3 : tie.Need-returns-3
 returns-3 c =
     let a = c .before .before .before .before .before .before .before .before .before .before .before .before .before .args in
@@ -73,7 +43,7 @@ returns-3 c =
     let t = c .before .before .before .before .before .before .before .sheet-section in
     let h = c .before .before .before .before .before .sheet .given in
     let u = c .before .before .before .input-section in
-    (inputs-fail (formOf (a .form)) (a .file .now) (a .at) (r .result) (r .ensures .0) (g .0 .0) (g .0 .1 .0) (g .0 .1 .1 .0) (g .1) (t .result) (t .ensures .0) (h .0 .0) (h .0 .1 .0) (h .0 .1 .1 .0) (h .1) (u .result) (u .ensures .0) (c .section-fault3 .result) (c .before .enum-told3 .given .0 .0) (c .before .enum-told3 .given .1) (c .section-fault3 .ensures), tt)
+    (inputs-fail (formOf (a .form)) (a .file .now) (a .at) (r .result) (r .ensures .0) (g .0 .0) (g .0 .1 .0) (g .0 .1 .1 .0) (g .1) (t .result) (t .ensures .0) (h .0 .0) (h .0 .1 .0) (h .0 .1 .1 .0) (h .1) (u .result) (u .ensures .0) (c .section-refusal3 .result) (c .before .enum-told3 .given .0 .0) (c .before .enum-told3 .given .1) (c .section-refusal3 .ensures), tt)
 
 returns-4 : tie.Need-returns-4
 returns-4 c =
@@ -103,21 +73,6 @@ returns-5 c =
 pub after-form-spec : {M : Type 1} → statement M
 after-form-spec =
     tie.close
-    (tie.spec
-    rom-section-requires
-    enum-known-rom
-    enum-told
-    section-fault-requires
-    returns
-    sheet-section-requires
-    enum-known-sheet
-    enum-told-2
-    section-fault-requires-2
-    returns-2
-    input-section-requires
-    enum-known-inputs
-    enum-told-3
-    section-fault-requires-3
-    returns-3
-    returns-4
-    returns-5)
+    (tie.spec (λ c κs. search needs) (λ c. search needs) (λ c. search needs) (λ c κs. search needs) returns
+    sheet-section-requires (λ c. search needs) (λ c. search needs) (λ c κs. search needs) returns-2 input-section-requires
+    (λ c. search needs) (λ c. search needs) (λ c κs. search needs) returns-3 returns-4 returns-5)

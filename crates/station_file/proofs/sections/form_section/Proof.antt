@@ -1,17 +1,8 @@
-use Rattle.station_file.specs.Inside.{formOf}
+use Rattle.station_file.specs.Places.{formOf}
 use Rattle.station_file.proofs.Parsing.{form-early, form-other, form-same, fits-of}
 use borrow.Author.Needs.{needs}
 use Rattle.station_file.proofs.sections.form_section.Statement.{statement}
 use Rattle.station_file.proofs.sections.form_section.Tie as tie
-
-read-number-requires : tie.Need-read-number-requires
-read-number-requires c κs = search needs
-
-enum-known-value : tie.Need-enum-known-value
-enum-known-value c = search needs
-
-enum-told : tie.Need-enum-told
-enum-told c = search needs
 
 returns : tie.Need-returns
 returns c =
@@ -36,4 +27,4 @@ returns-3 c =
 pub form-section-spec : {M : Type 1} → statement M
 form-section-spec =
     tie.close
-    (tie.spec read-number-requires enum-known-value enum-told returns returns-2 returns-3)
+    (tie.spec (λ c κs. search needs) (λ c. search needs) (λ c. search needs) returns returns-2 returns-3)

@@ -1,4 +1,4 @@
-use Rattle.station_file.specs.Inside.{formOf}
+use Rattle.station_file.specs.Places.{formOf}
 use Prim.Native.Nat.{_*_}
 use Rattle.station_file.proofs.Parsing.{input-early, input-large, input-bad, input-whole, scan-fits, fits-of}
 use native.Mathlib.Omega.{arith}
@@ -6,15 +6,6 @@ use mathlib.Core.Path.{refl}
 use borrow.Author.Needs.{needs}
 use Rattle.station_file.proofs.sections.input_section.Statement.{statement}
 use Rattle.station_file.proofs.sections.input_section.Tie as tie
-
-read-number-requires : tie.Need-read-number-requires
-read-number-requires c κs = search needs
-
-enum-known-count : tie.Need-enum-known-count
-enum-known-count c = search needs
-
-enum-told : tie.Need-enum-told
-enum-told c = search needs
 
 returns : tie.Need-returns
 returns c =
@@ -44,12 +35,6 @@ inputs-requires c κs =
     let g = c .before .before .before .count .given in
     fits-of (a .file .now) (r .result) (g .0 .0) (g .0 .1 .0) (g .1) (r .ensures .1) .1
 
-enum-known-fault : tie.Need-enum-known-fault
-enum-known-fault c = search needs
-
-enum-told-2 : tie.Need-enum-told-2
-enum-told-2 c = search needs
-
 mul-t14 : tie.Need-mul-t14
 mul-t14 c =
     let a = c .before .before .before .before .before .before .before .before .before .before .args in
@@ -71,7 +56,7 @@ returns-3 c =
     let a = c .before .before .before .before .before .before .before .before .before .before .before .args in
     let r = c .before .before .before .before .before .before .before .before .before .read-number in
     let g = c .before .before .before .before .before .before .before .count .given in
-    let k = c .before .fault .given in
+    let k = c .before .refusal .given in
     (input-bad (formOf (a .form)) refl (a .file .now) (a .at) (r .result) (r .ensures .0) (g .0 .0) (g .0 .1 .0) (g .1) (c .before .before .before .before .if1 .left) (c .before .before .before .inputs .result) (k .0 .0) (k .1) (c .before .before .before .inputs .ensures .0), tt)
 
 returns-4 : tie.Need-returns-4
@@ -87,17 +72,5 @@ returns-4 c =
 pub input-section-spec : {M : Type 1} → statement M
 input-section-spec =
     tie.close
-    (tie.spec
-    read-number-requires
-    enum-known-count
-    enum-told
-    returns
-    returns-2
-    mul-inputs
-    inputs-requires
-    enum-known-fault
-    enum-told-2
-    mul-t14
-    add-t15
-    returns-3
-    returns-4)
+    (tie.spec (λ c κs. search needs) (λ c. search needs) (λ c. search needs) returns returns-2 mul-inputs inputs-requires
+    (λ c. search needs) (λ c. search needs) mul-t14 add-t15 returns-3 returns-4)

@@ -1,18 +1,9 @@
 use Rattle.station_file.proofs.Parsing.{form-fails, form-passes, opening-fits}
-use Rattle.station_file.specs.Inside.{formOf, opened}
+use Rattle.station_file.specs.Places.{formOf, opened}
 use mathlib.Core.Path.{_∙_, ap, sym}
 use borrow.Author.Needs.{needs}
 use Rattle.station_file.proofs.sections.parse.Statement.{statement}
 use Rattle.station_file.proofs.sections.parse.Tie as tie
-
-form-section-requires : tie.Need-form-section-requires
-form-section-requires c κs = search needs
-
-enum-known-fault : tie.Need-enum-known-fault
-enum-known-fault c = search needs
-
-enum-known-at : tie.Need-enum-known-at
-enum-known-at c = search needs
 
 after-form-requires : tie.Need-after-form-requires
 after-form-requires c κs =
@@ -25,7 +16,7 @@ returns : tie.Need-returns
 returns c =
     let a = c .before .before .before .before .before .args in
     let r = c .before .before .before .form-section in
-    let g = c .before .fault .given in
+    let g = c .before .refusal .given in
     (form-fails (formOf (a .form)) (a .file .now) _ (sym (r .ensures .0) ∙ ap (opened (a .form) (a .file .now)) (g .1)), tt)
 
 returns-2 : tie.Need-returns-2
@@ -38,10 +29,4 @@ returns-2 c =
 pub parse-spec : {M : Type 1} → statement M
 parse-spec =
     tie.close
-    (tie.spec
-    form-section-requires
-    enum-known-fault
-    enum-known-at
-    after-form-requires
-    returns
-    returns-2)
+    (tie.spec (λ c κs. search needs) (λ c. search needs) (λ c. search needs) after-form-requires returns returns-2)

@@ -6,23 +6,11 @@ use borrow.Author.Needs.{needs}
 use Rattle.station_file.proofs.sections.rom_section.Statement.{statement}
 use Rattle.station_file.proofs.sections.rom_section.Tie as tie
 
-read-number-requires : tie.Need-read-number-requires
-read-number-requires c κs = search needs
-
-enum-known-count : tie.Need-enum-known-count
-enum-known-count c = search needs
-
-enum-told : tie.Need-enum-told
-enum-told c = search needs
-
 returns : tie.Need-returns
 returns c =
     let a = c .before .before .before .before .args in
     let r = c .before .before .read-number in
     (rom-early (a .file .now) (a .at) (r .result) (r .ensures .0) (c .enum-told .given .1), tt)
-
-rom-count-requires : tie.Need-rom-count-requires
-rom-count-requires c κs = search needs
 
 returns-2 : tie.Need-returns-2
 returns-2 c =
@@ -53,12 +41,6 @@ returns-3 c =
     let g = c .before .before .before .before .count .given in
     (rom-short (a .file .now) (a .at) (r .result) (r .ensures .0) (g .0 .0) (g .0 .1 .0) (g .1) (sym (c .before .before .rom-count .ensures) ∙ not-false _ (c .before .if1 .left)) (c .if2 .taken), tt)
 
-mul-t10 : tie.Need-mul-t10
-mul-t10 c = search needs
-
-add-t11 : tie.Need-add-t11
-add-t11 c = search needs
-
 returns-4 : tie.Need-returns-4
 returns-4 c =
     let a = c .before .before .before .before .before .before .before .before .args in
@@ -70,16 +52,5 @@ returns-4 c =
 pub rom-section-spec : {M : Type 1} → statement M
 rom-section-spec =
     tie.close
-    (tie.spec
-    read-number-requires
-    enum-known-count
-    enum-told
-    returns
-    rom-count-requires
-    returns-2
-    sub-if2
-    mul-if2
-    returns-3
-    mul-t10
-    add-t11
-    returns-4)
+    (tie.spec (λ c κs. search needs) (λ c. search needs) (λ c. search needs) returns (λ c κs. search needs) returns-2 sub-if2
+    mul-if2 returns-3 (λ c. search needs) (λ c. search needs) returns-4)

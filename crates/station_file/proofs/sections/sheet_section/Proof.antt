@@ -6,23 +6,11 @@ use borrow.Author.Needs.{needs}
 use Rattle.station_file.proofs.sections.sheet_section.Statement.{statement}
 use Rattle.station_file.proofs.sections.sheet_section.Tie as tie
 
-read-number-requires : tie.Need-read-number-requires
-read-number-requires c κs = search needs
-
-enum-known-count : tie.Need-enum-known-count
-enum-known-count c = search needs
-
-enum-told : tie.Need-enum-told
-enum-told c = search needs
-
 returns : tie.Need-returns
 returns c =
     let a = c .before .before .before .before .args in
     let r = c .before .before .read-number in
     (sheet-early (a .file .now) (a .at) (r .result) (r .ensures .0) (a .words) (c .enum-told .given .1), tt)
-
-sheet-count-requires : tie.Need-sheet-count-requires
-sheet-count-requires c κs = search needs
 
 returns-2 : tie.Need-returns-2
 returns-2 c =
@@ -38,12 +26,6 @@ entries-requires c κs =
     let g = c .before .before .before .count .given in
     fits-of (a .file .now) (r .result) (g .0 .0) (g .0 .1 .0) (g .1) (r .ensures .1) .1
 
-enum-known-fault : tie.Need-enum-known-fault
-enum-known-fault c = search needs
-
-enum-told-2 : tie.Need-enum-told-2
-enum-told-2 c = search needs
-
 add-t14 : tie.Need-add-t14
 add-t14 c =
     let a = c .before .before .before .before .before .before .before .before .before .before .args in
@@ -57,7 +39,7 @@ returns-3 c =
     let a = c .before .before .before .before .before .before .before .before .before .before .before .args in
     let r = c .before .before .before .before .before .before .before .before .before .read-number in
     let g = c .before .before .before .before .before .before .before .count .given in
-    let k = c .before .fault .given in
+    let k = c .before .refusal .given in
     (sheet-bad (a .file .now) (a .at) (r .result) (r .ensures .0) (a .words) (g .0 .0) (g .0 .1 .0) (g .1) (sym (c .before .before .before .before .before .sheet-count .ensures) ∙ not-false _ (c .before .before .before .before .if1 .left)) (c .before .before .before .entries .result) (k .0 .0) (k .1) (c .before .before .before .entries .ensures .0), tt)
 
 returns-4 : tie.Need-returns-4
@@ -73,16 +55,5 @@ returns-4 c =
 pub sheet-section-spec : {M : Type 1} → statement M
 sheet-section-spec =
     tie.close
-    (tie.spec
-    read-number-requires
-    enum-known-count
-    enum-told
-    returns
-    sheet-count-requires
-    returns-2
-    entries-requires
-    enum-known-fault
-    enum-told-2
-    add-t14
-    returns-3
-    returns-4)
+    (tie.spec (λ c κs. search needs) (λ c. search needs) (λ c. search needs) returns (λ c κs. search needs) returns-2
+    entries-requires (λ c. search needs) (λ c. search needs) add-t14 returns-3 returns-4)

@@ -1,39 +1,24 @@
-use Rattle.station_file.proofs.Checks.{passes, fails, rom-count-fails, sheet-count-fails, sheet-fails, part-record, too-many, inputs-fail, no-fault, words-bound, entries-bound}
-use Rattle.station_file.specs.Inside.{formOf}
+use Rattle.station_file.proofs.Checks.{passes, fails, rom-count-fails, sheet-count-fails, sheet-fails, part-record, too-many, inputs-fail, no-refusal}
+use Rattle.station_file.proofs.Soundness.{words-bound, entries-bound}
+use Rattle.station_file.specs.Places.{formOf}
 use Rattle.station_file.specs.Station.{entryByte, inputByte}
 use borrow.Author.Tests.{not-true, not-false}
 use lib.ListN.{length}
 use native.Mathlib.Omega.{arith}
-use Prim.Native.Nat.{ℕ}
 use mathlib.Core.Path.{_∙_, sym}
 use borrow.Author.Needs.{needs}
 use Rattle.station_file.proofs.writer.check.Statement.{statement}
 use Rattle.station_file.proofs.writer.check.Tie as tie
-
-rom-count-requires : tie.Need-rom-count-requires
-rom-count-requires c κs = search needs
 
 returns : tie.Need-returns
 returns c =
     let a = c .before .before .before .before .before .args in
     (rom-count-fails (formOf (a .form)) (a .rom .now) (a .sheet .now) (a .inputs .now) (sym (c .before .rom-count .ensures) ∙ not-true _ (c .if1 .taken)), tt)
 
-sheet-count-requires : tie.Need-sheet-count-requires
-sheet-count-requires c κs = search needs
-
 returns-2 : tie.Need-returns-2
 returns-2 c =
     let a = c .before .before .before .before .before .before .before .args in
     (sheet-count-fails (formOf (a .form)) (a .rom .now) (a .sheet .now) (a .inputs .now) (sym (c .before .before .before .rom-count .ensures) ∙ not-false _ (c .before .before .if1 .left)) (sym (c .before .sheet-count .ensures) ∙ not-true _ (c .if2 .taken)), tt)
-
-entries-requires : tie.Need-entries-requires
-entries-requires c κs = search needs
-
-enum-told : tie.Need-enum-told
-enum-told c = search needs
-
-enum-told-2 : tie.Need-enum-told-2
-enum-told-2 c = search needs
 
 returns-3 : tie.Need-returns-3
 returns-3 c =
@@ -50,15 +35,6 @@ returns-5 c =
     let a = c .before .before .before .before .before .before .before .before .before .before .before .before .before .args in
     (too-many (formOf (a .form)) (a .rom .now) (a .sheet .now) (a .inputs .now) (sym (c .before .before .before .before .before .before .before .before .before .rom-count .ensures) ∙ not-false _ (c .before .before .before .before .before .before .before .before .if1 .left)) (sym (c .before .before .before .before .before .before .before .sheet-count .ensures) ∙ not-false _ (c .before .before .before .before .before .before .if2 .left)) (passes entryByte (a .sheet .now) (c .before .before .before .before .before .entries .result) (c .before .before .before .before .before .entries .ensures .0) (c .before .before .before .enum-told .given .1)) (c .before .before .if3 .left) (c .if4 .taken), tt)
 
-inputs-requires : tie.Need-inputs-requires
-inputs-requires c κs = search needs
-
-enum-told-3 : tie.Need-enum-told-3
-enum-told-3 c = search needs
-
-enum-told-4 : tie.Need-enum-told-4
-enum-told-4 c = search needs
-
 returns-6 : tie.Need-returns-6
 returns-6 c =
     let a = c .before .before .before .before .before .before .before .before .before .before .before .before .before .before .before .before .args in
@@ -69,24 +45,11 @@ returns-7 c =
     let a = c .before .before .before .before .before .before .before .before .before .before .before .before .before .before .before .before .args in
     let m = words-bound (length (a .rom .now)) (sym (c .before .before .before .before .before .before .before .before .before .before .before .before .rom-count .ensures) ∙ not-false _ (c .before .before .before .before .before .before .before .before .before .before .before .if1 .left)) in
     let n = entries-bound (length (a .rom .now)) (length (a .sheet .now)) (sym (c .before .before .before .before .before .before .before .before .before .before .sheet-count .ensures) ∙ not-false _ (c .before .before .before .before .before .before .before .before .before .if2 .left)) in
-    (no-fault (formOf (a .form)) (a .rom .now) (a .sheet .now) (a .inputs .now) (sym (c .before .before .before .before .before .before .before .before .before .before .before .before .rom-count .ensures) ∙ not-false _ (c .before .before .before .before .before .before .before .before .before .before .before .if1 .left)) (sym (c .before .before .before .before .before .before .before .before .before .before .sheet-count .ensures) ∙ not-false _ (c .before .before .before .before .before .before .before .before .before .if2 .left)) (passes entryByte (a .sheet .now) (c .before .before .before .before .before .before .before .before .entries .result) (c .before .before .before .before .before .before .before .before .entries .ensures .0) (c .before .before .before .before .before .before .enum-told .given .1)) (c .before .before .before .before .before .if3 .left) (c .before .before .before .if4 .left) (passes inputByte (a .inputs .now) (c .before .before .inputs .result) (c .before .before .inputs .ensures .0) (c .enum-told3 .given .1)), (m, omega (arith, m, n)))
+    (no-refusal (formOf (a .form)) (a .rom .now) (a .sheet .now) (a .inputs .now) (sym (c .before .before .before .before .before .before .before .before .before .before .before .before .rom-count .ensures) ∙ not-false _ (c .before .before .before .before .before .before .before .before .before .before .before .if1 .left)) (sym (c .before .before .before .before .before .before .before .before .before .before .sheet-count .ensures) ∙ not-false _ (c .before .before .before .before .before .before .before .before .before .if2 .left)) (passes entryByte (a .sheet .now) (c .before .before .before .before .before .before .before .before .entries .result) (c .before .before .before .before .before .before .before .before .entries .ensures .0) (c .before .before .before .before .before .before .enum-told .given .1)) (c .before .before .before .before .before .if3 .left) (c .before .before .before .if4 .left) (passes inputByte (a .inputs .now) (c .before .before .inputs .result) (c .before .before .inputs .ensures .0) (c .enum-told3 .given .1)), (m, omega (arith, m, n)))
 
 pub check-spec : {M : Type 1} → statement M
 check-spec =
     tie.close
-    (tie.spec
-    rom-count-requires
-    returns
-    sheet-count-requires
-    returns-2
-    entries-requires
-    enum-told
-    enum-told-2
-    returns-3
-    returns-4
-    returns-5
-    inputs-requires
-    enum-told-3
-    enum-told-4
-    returns-6
+    (tie.spec (λ c κs. search needs) returns (λ c κs. search needs) returns-2 (λ c κs. search needs) (λ c. search needs)
+    (λ c. search needs) returns-3 returns-4 returns-5 (λ c κs. search needs) (λ c. search needs) (λ c. search needs) returns-6
     returns-7)

@@ -10,9 +10,6 @@ use Rattle.station_file.proofs.writer.put_bytes.Tie as tie
 put-number-requires : tie.Need-put-number-requires
 put-number-requires c κs = omega (arith, c .before .before .before .pre)
 
-add-copy-bytes : tie.Need-add-copy-bytes
-add-copy-bytes c = search needs
-
 copy-bytes-requires : tie.Need-copy-bytes-requires
 copy-bytes-requires c κs = (omega arith, omega (arith, c .before .before .before .before .before .before .before .pre, c .before .before .before .put-number .kept .1 .0))
 
@@ -28,5 +25,4 @@ returns c =
     both (a .at) (bytesOf 2 (a .count)) (a .at + 2) (a .bytes .now) (a .out .now) (p .last .1 .0) (w .last .1 .1 .1 .0) refl (omega (arith, s .pre)) (p .ensures) (w .ensures ∙ whole (a .bytes .now) (a .at + 2) (p .last .1 .0))
 
 pub put-bytes-spec : {M : Type 1} → statement M
-put-bytes-spec =
-    tie.close (tie.spec put-number-requires add-copy-bytes copy-bytes-requires same-length returns)
+put-bytes-spec = tie.close (tie.spec put-number-requires (λ c. search needs) copy-bytes-requires same-length returns)

@@ -11,9 +11,6 @@ use Rattle.station_file.proofs.writer.put_rom.Tie as tie
 put-number-requires : tie.Need-put-number-requires
 put-number-requires c κs = omega (arith, c .before .before .before .pre)
 
-add-put-words : tie.Need-add-put-words
-add-put-words c = search needs
-
 put-words-requires : tie.Need-put-words-requires
 put-words-requires c κs = omega (arith, c .before .before .before .before .before .before .before .pre, c .before .before .before .put-number .kept .1 .0)
 
@@ -29,5 +26,4 @@ returns c =
     both (a .at) (bytesOf 2 (length (a .rom .now))) (a .at + 2) (wordBytes (a .rom .now)) (a .out .now) (p .last .1 .0) (w .last .1 .0) refl (omega (arith, s .pre)) (p .ensures) (w .ensures)
 
 pub put-rom-spec : {M : Type 1} → statement M
-put-rom-spec =
-    tie.close (tie.spec put-number-requires add-put-words put-words-requires same-length returns)
+put-rom-spec = tie.close (tie.spec put-number-requires (λ c. search needs) put-words-requires same-length returns)

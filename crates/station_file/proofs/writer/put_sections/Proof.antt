@@ -5,18 +5,6 @@ use borrow.Author.Needs.{needs}
 use Rattle.station_file.proofs.writer.put_sections.Statement.{statement}
 use Rattle.station_file.proofs.writer.put_sections.Tie as tie
 
-mul-sheet-at : tie.Need-mul-sheet-at
-mul-sheet-at c = search needs
-
-add-sheet-at : tie.Need-add-sheet-at
-add-sheet-at c = search needs
-
-add-inputs-at : tie.Need-add-inputs-at
-add-inputs-at c = search needs
-
-add-inputs-at-2 : tie.Need-add-inputs-at-2
-add-inputs-at-2 c = search needs
-
 put-number-requires : tie.Need-put-number-requires
 put-number-requires c κs = omega (arith, c .before .before .before .before .before .pre)
 
@@ -45,14 +33,5 @@ returns c =
 pub put-sections-spec : {M : Type 1} → statement M
 put-sections-spec =
     tie.close
-    (tie.spec
-    mul-sheet-at
-    add-sheet-at
-    add-inputs-at
-    add-inputs-at-2
-    put-number-requires
-    put-rom-requires
-    put-bytes-requires
-    put-bytes-requires-2
-    same-length
-    returns)
+    (tie.spec (λ c. search needs) (λ c. search needs) (λ c. search needs) (λ c. search needs) put-number-requires
+    put-rom-requires put-bytes-requires put-bytes-requires-2 same-length returns)

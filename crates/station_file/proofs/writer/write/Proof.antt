@@ -1,30 +1,15 @@
-use Rattle.station_file.proofs.Rendering.{denies, full, writes, small}
+use Rattle.station_file.proofs.Rendering.{refuses, full, writes, small}
 use native.Mathlib.Omega.{arith}
 use borrow.Author.Needs.{needs}
 use Rattle.station_file.proofs.writer.write.Statement.{statement}
 use Rattle.station_file.proofs.writer.write.Tie as tie
-
-form-1-requires : tie.Need-form-1-requires
-form-1-requires c κs = search needs
-
-check-requires : tie.Need-check-requires
-check-requires c κs = search needs
-
-enum-told : tie.Need-enum-told
-enum-told c = search needs
-
-enum-told-2 : tie.Need-enum-told-2
-enum-told-2 c = search needs
-
-checked-fault-requires : tie.Need-checked-fault-requires
-checked-fault-requires c κs = search needs
 
 returns : tie.Need-returns
 returns c =
     let a = c .before .before .before .before .before .before .before .before .before .args in
     let q = c .before .before .before .before .form-1 in
     let k = c .before .before .before .check in
-    denies (a .rom .now) (a .sheet .now) (a .inputs .now) (q .result) (q .ensures) (k .result) (k .ensures .0) (a .out .now) (c .checked-fault .result) (c .before .enum-told2 .given .0 .0) (c .before .enum-told2 .given .1) (c .checked-fault .ensures)
+    refuses (a .rom .now) (a .sheet .now) (a .inputs .now) (q .result) (q .ensures) (k .result) (k .ensures .0) (a .out .now) (c .test-refusal .result) (c .before .enum-told2 .given .0 .0) (c .before .enum-told2 .given .1) (c .test-refusal .ensures)
 
 mul-size : tie.Need-mul-size
 mul-size c =
@@ -68,9 +53,6 @@ returns-2 c =
 put-sections-requires : tie.Need-put-sections-requires
 put-sections-requires c κs = c .before .if1 .left
 
-same-length : tie.Need-same-length
-same-length c = search needs
-
 returns-3 : tie.Need-returns-3
 returns-3 c =
     let a = c .before .before .before .before .before .before .before .before .before .before .before .before .before .args in
@@ -82,18 +64,5 @@ returns-3 c =
 pub write-spec : {M : Type 1} → statement M
 write-spec =
     tie.close
-    (tie.spec
-    form-1-requires
-    check-requires
-    enum-told
-    enum-told-2
-    checked-fault-requires
-    returns
-    mul-size
-    add-size
-    add-size-2
-    add-size-3
-    returns-2
-    put-sections-requires
-    same-length
-    returns-3)
+    (tie.spec (λ c κs. search needs) (λ c κs. search needs) (λ c. search needs) (λ c. search needs) (λ c κs. search needs)
+    returns mul-size add-size add-size-2 add-size-3 returns-2 put-sections-requires (λ c. search needs) returns-3)

@@ -19,19 +19,8 @@ put-station-requires c κs =
     let s = c .before .before .before .before .before .before .before .before in
     omega (arith, length-take-le (s .args .bytes) (s .args .inputs .now) (s .pre .2), s .pre .3)
 
-same-length : tie.Need-same-length
-same-length c = search needs
-
-returns : tie.Need-returns
-returns c = search needs
-
 pub put-front-spec : {M : Type 1} → statement M
 put-front-spec =
     tie.close
-    (tie.spec
-    slice-aggregate-put-station
-    slice-aggregate-put-station-2
-    slice-aggregate-put-station-3
-    put-station-requires
-    same-length
-    returns)
+    (tie.spec slice-aggregate-put-station slice-aggregate-put-station-2 slice-aggregate-put-station-3 put-station-requires
+    (λ c. search needs) (λ c. search needs))

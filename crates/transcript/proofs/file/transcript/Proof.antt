@@ -4,33 +4,15 @@ use borrow.Author.Needs.{needs}
 use Rattle.transcript.proofs.file.transcript.Statement.{statement}
 use Rattle.transcript.proofs.file.transcript.Tie as tie
 
-put-file-requires : tie.Need-put-file-requires
-put-file-requires c κs = search needs
-
-same-length : tie.Need-same-length
-same-length c = search needs
-
 returns : tie.Need-returns
 returns c =
     let p = c .before .before .put-file .ensures in
     (printed-whole _ _ _ _ (p .place) (omega (arith, p .short, c .before .before .before .before .if1 .taken)) (p .bytes), omega (arith, p .place, p .short))
 
-slice-aggregate-put-file : tie.Need-slice-aggregate-put-file
-slice-aggregate-put-file c = search needs
-
-put-file-requires-2 : tie.Need-put-file-requires-2
-put-file-requires-2 c κs = search needs
-
 returns-2 : tie.Need-returns-2
 returns-2 c =
     let p = c .before .before .put-file2 .ensures in
     (too-short _ _ _ (p .place) (c .if2 .taken), omega (arith, p .place, p .short))
-
-put-file-requires-3 : tie.Need-put-file-requires-3
-put-file-requires-3 c κs = search needs
-
-same-length-2 : tie.Need-same-length-2
-same-length-2 c = search needs
 
 returns-3 : tie.Need-returns-3
 returns-3 c =
@@ -40,13 +22,5 @@ returns-3 c =
 pub transcript-spec : {M : Type 1} → statement M
 transcript-spec =
     tie.close
-    (tie.spec
-    put-file-requires
-    same-length
-    returns
-    slice-aggregate-put-file
-    put-file-requires-2
-    returns-2
-    put-file-requires-3
-    same-length-2
-    returns-3)
+    (tie.spec (λ c κs. search needs) (λ c. search needs) returns (λ c. search needs) (λ c κs. search needs) returns-2
+    (λ c κs. search needs) (λ c. search needs) returns-3)

@@ -7,14 +7,5 @@ use Rattle.transcript.proofs.put.put_byte.Tie as tie
 returns : tie.Need-returns
 returns c = sym (set-out _ _ _ (c .if1 .taken))
 
-slice-write-out : tie.Need-slice-write-out
-slice-write-out c = search needs
-
-same-length : tie.Need-same-length
-same-length c = search needs
-
-returns-2 : tie.Need-returns-2
-returns-2 c = search needs
-
 pub put-byte-spec : {M : Type 1} → statement M
-put-byte-spec = tie.close (tie.spec returns slice-write-out same-length returns-2)
+put-byte-spec = tie.close (tie.spec returns (λ c. search needs) (λ c. search needs) (λ c. search needs))

@@ -26,9 +26,6 @@ sub-i c = omega (arith, one-longer _ (c .loop-test .taken))
 cast-hex-digit : tie.Need-cast-hex-digit Inv-loop μ-loop
 cast-hex-digit c = omega arith
 
-hex-digit-requires : tie.Need-hex-digit-requires Inv-loop μ-loop
-hex-digit-requires c κs = search needs
-
 array-write-digits : tie.Need-array-write-digits Inv-loop μ-loop
 array-write-digits c = omega arith
 
@@ -52,9 +49,6 @@ sub-i-2 c = omega (arith, one-long _ (c .loop-test .left))
 cast-hex-digit-2 : tie.Need-cast-hex-digit-2 Inv-loop μ-loop
 cast-hex-digit-2 c = omega arith
 
-hex-digit-requires-2 : tie.Need-hex-digit-requires-2 Inv-loop μ-loop
-hex-digit-requires-2 c κs = search needs
-
 array-write-digits-2 : tie.Need-array-write-digits-2 Inv-loop μ-loop
 array-write-digits-2 c = omega arith
 
@@ -66,9 +60,6 @@ written c =
 
 sub-put : tie.Need-sub-put Inv-loop μ-loop
 sub-put c = omega arith
-
-part-put-start : tie.Need-part-put-start Inv-loop μ-loop
-part-put-start c = search needs
 
 part-put-end : tie.Need-part-put-end Inv-loop μ-loop
 part-put-end c =
@@ -82,9 +73,6 @@ put-requires c κs =
     let w = ap length (written (c .before .before .before)) in
     omega (arith, w, five-long (c .before .before .before .before .before .before .before .args .n) (omega arith))
 
-same-length : tie.Need-same-length Inv-loop μ-loop
-same-length c = search needs
-
 returns : tie.Need-returns Inv-loop μ-loop
 returns c =
     bounded 5 (omega (arith, c .before .before .put .ensures .place, ap length (written (c .before .before .before .before .before .before)), five-long (c .before .before .before .before .before .before .before .before .before .before .args .n) (omega arith))) (reworded (written (c .before .before .before .before .before .before)) (c .before .before .put .ensures))
@@ -92,23 +80,6 @@ returns c =
 pub put-decimal-spec : {M : Type 1} → statement M
 put-decimal-spec =
     tie.close
-    (tie.spec
-    Inv-loop
-    μ-loop
-    loop-holds
-    sub-i
-    cast-hex-digit
-    hex-digit-requires
-    array-write-digits
-    loop-less
-    loop-again
-    sub-i-2
-    cast-hex-digit-2
-    hex-digit-requires-2
-    array-write-digits-2
-    sub-put
-    part-put-start
-    part-put-end
-    put-requires
-    same-length
-    returns)
+    (tie.spec Inv-loop μ-loop loop-holds sub-i cast-hex-digit (λ c κs. search needs) array-write-digits loop-less loop-again
+    sub-i-2 cast-hex-digit-2 (λ c κs. search needs) array-write-digits-2 sub-put (λ c. search needs) part-put-end put-requires
+    (λ c. search needs) returns)

@@ -1,0 +1,189 @@
+//! The two emulators behind the same calls. Numbers are those of
+//! include/pollwezen.h: 0 is done, 255 standing, and any other a refusal.
+
+use pollwezen_host as library;
+use reference::station::{self, read_into, write_into};
+use reference::{Answer, Input, Machine, Verdict};
+
+use crate::words::Row;
+
+/// A station, or the buffers that a reader fills with one. Inputs are eleven
+/// bytes a record.
+pub struct Station {
+    pub rom: Vec<u16>,
+    pub sheet: Vec<u8>,
+    pub inputs: Vec<u8>,
+}
+
+/// Bytes of an input record.
+pub const RECORD: usize = 11;
+
+pub trait Emulator {
+    fn name(&self) -> &'static str;
+    fn reset(&self) -> Machine;
+    fn step(&self, rom: &[u16], machine: &mut Machine, input: &Input) -> u8;
+    /// The steps completed, and the refusal or 0.
+    fn run(&self, rom: &[u16], machine: &mut Machine, input: &Input, budget: u32) -> (u32, u8);
+    fn check(&self, rom: &[u16], sheet: &[u8]) -> Verdict;
+    /// What else a word is decoded to, where it is not this.
+    fn decodes_else(&self, word: u16, row: Option<Row>) -> Option<String>;
+    /// The number, and the word or 0.
+    fn encode(&self, row: Row) -> (u8, u16);
+    /// A word decoded and encoded; none where it is no instruction.
+    fn there_and_back(&self, word: u16) -> Option<(u8, u16)>;
+    /// Fills the fronts of buffers, of each so much as is lent. The words,
+    /// entries and records of the file, or the refusal.
+    fn read(&self, file: &[u8], held: &mut Station, lent: [usize; 3]) -> Result<[usize; 3], u8>;
+    /// The bytes of the file, or the refusal.
+    fn write(&self, station: &Station, out: &mut [u8]) -> Result<usize, u8>;
+}
+
+/// The proved emulator: the shipped library. A refusal comes with zeros; where
+/// it does not, its number here is 0, which no case has.
+pub struct Library;
+
+/// A word by the library: the number, and the row or zeros.
+fn listed(word: u16) -> (u8, Row) {
+    let l = library::decode(word);
+    (l.number, Row { row: l.row, first: l.first, second: l.second, addr: l.addr })
+}
+
+impl Emulator for Library {
+    fn name(&self) -> &'static str {
+        "the library"
+    }
+
+    fn reset(&self) -> Machine {
+        library::reset()
+    }
+
+    fn step(&self, rom: &[u16], machine: &mut Machine, input: &Input) -> u8 {
+        library::step(rom, machine, input)
+    }
+
+    fn run(&self, rom: &[u16], machine: &mut Machine, input: &Input, budget: u32) -> (u32, u8) {
+        let report = library::run(rom, machine, input, budget);
+        (report.steps, report.number)
+    }
+
+    fn check(&self, rom: &[u16], sheet: &[u8]) -> Verdict {
+        let checked = library::verify(rom, sheet);
+        match (checked.number, checked.word, checked.rule) {
+            (0, 0, 0) => Verdict::Pass,
+            (254, word, rule) => Verdict::Fail { word, rule },
+            (number, 0, 0) => Verdict::Refused(number),
+            _ => Verdict::Refused(0),
+        }
+    }
+
+    fn decodes_else(&self, word: u16, row: Option<Row>) -> Option<String> {
+        let wanted = row.map_or((3, Row::default()), |row| (0, row));
+        (listed(word) != wanted).then(|| format!("{:X?}", listed(word)))
+    }
+
+    fn encode(&self, row: Row) -> (u8, u16) {
+        let coded = library::encode(row.row, row.first, row.second, row.addr);
+        (coded.number, coded.word)
+    }
+
+    fn there_and_back(&self, word: u16) -> Option<(u8, u16)> {
+        let (number, row) = listed(word);
+        (number == 0).then(|| self.encode(row))
+    }
+
+    fn read(&self, file: &[u8], held: &mut Station, lent: [usize; 3]) -> Result<[usize; 3], u8> {
+        let (rom, sheet) = (&mut held.rom[..lent[0]], &mut held.sheet[..lent[1]]);
+        let counts = library::read(file, rom, sheet, &mut held.inputs[..lent[2]]);
+        match (counts.number, [counts.words, counts.entries, counts.records]) {
+            (0, counts) => Ok(counts),
+            (number, [0, 0, 0]) => Err(number),
+            _ => Err(0),
+        }
+    }
+
+    fn write(&self, station: &Station, out: &mut [u8]) -> Result<usize, u8> {
+        let output = library::write(&station.rom, &station.sheet, &station.inputs, out);
+        match (output.number, output.length) {
+            (0, length) => Ok(length),
+            (number, 0) => Err(number),
+            _ => Err(0),
+        }
+    }
+}
+
+/// The second emulator.
+pub struct Second;
+
+fn record(bytes: &[u8]) -> Input {
+    let five = |at: usize| [0, 1, 2, 3, 4].map(|k| bytes[at + k]);
+    Input { pins: five(0), directions: five(5), release: bytes[10] }
+}
+
+fn coded(word: Result<u16, u8>) -> (u8, u16) {
+    word.map_or_else(|number| (number, 0), |word| (0, word))
+}
+
+impl Emulator for Second {
+    fn name(&self) -> &'static str {
+        "the second emulator"
+    }
+
+    fn reset(&self) -> Machine {
+        Machine::reset()
+    }
+
+    fn step(&self, rom: &[u16], machine: &mut Machine, input: &Input) -> u8 {
+        match reference::step(rom, machine, input) {
+            Answer::Done => 0,
+            Answer::Standby => 255,
+            Answer::Refused(number) => number,
+        }
+    }
+
+    fn run(&self, rom: &[u16], machine: &mut Machine, input: &Input, budget: u32) -> (u32, u8) {
+        let report = reference::run(rom, machine, input, budget);
+        (report.steps, report.refusal)
+    }
+
+    fn check(&self, rom: &[u16], sheet: &[u8]) -> Verdict {
+        reference::verify(rom, sheet)
+    }
+
+    fn decodes_else(&self, word: u16, row: Option<Row>) -> Option<String> {
+        let given = reference::decode(word);
+        (given != row.map(Row::instruction)).then(|| format!("{given:X?}"))
+    }
+
+    fn encode(&self, row: Row) -> (u8, u16) {
+        coded(reference::encode(row.instruction()))
+    }
+
+    fn there_and_back(&self, word: u16) -> Option<(u8, u16)> {
+        reference::decode(word).map(|instruction| coded(reference::encode(instruction)))
+    }
+
+    fn read(&self, file: &[u8], held: &mut Station, lent: [usize; 3]) -> Result<[usize; 3], u8> {
+        let (rom, sheet) = (&mut held.rom[..lent[0]], &mut held.sheet[..lent[1]]);
+        let inputs = &mut held.inputs[..lent[2]];
+        let mut records: Vec<Input> = inputs.chunks_exact(RECORD).map(record).collect();
+        let counts = read_into(file, rom, sheet, &mut records);
+        let bytes =
+            records.iter().flat_map(|i| [&i.pins[..], &i.directions, &[i.release]].concat());
+        inputs.iter_mut().zip(bytes).for_each(|(place, byte)| *place = byte);
+        counts.map(|counts| [counts.words, counts.depths, counts.inputs])
+    }
+
+    /// It takes whole records. A part of one is 22 behind what comes before it
+    /// in the file.
+    fn write(&self, station: &Station, out: &mut [u8]) -> Result<usize, u8> {
+        let records = station.inputs.chunks_exact(RECORD);
+        let part = !records.remainder().is_empty();
+        let inputs = if part { vec![] } else { records.map(record).collect() };
+        let (rom, depths) = (station.rom.clone(), station.sheet.clone());
+        let station = reference::Station { rom, depths, inputs };
+        if part {
+            return station::write(&station).and(Err(22));
+        }
+        write_into(&station, out)
+    }
+}

@@ -1,0 +1,133 @@
+//! Programs: steps and runs on one lent record. The lines are told in
+//! data/programs.cases.
+
+use crate::emulators::Emulator;
+use crate::scan::{hex, is_word, word, Head};
+use crate::setup::Setup;
+use crate::Bench;
+
+/// The word HALT 0, so that a run ends behind a program's last word and at a
+/// label where nothing stands.
+const HALT: u16 = 0x3BF0;
+
+/// The largest budget.
+const BUDGET: u32 = 65_535;
+
+pub struct Programs {
+    rom: Vec<u16>,
+    words: usize,
+    /// Where the next word goes.
+    at: usize,
+    setup: Setup,
+}
+
+impl Programs {
+    pub fn new() -> Programs {
+        Programs { rom: vec![HALT; 1025], words: 64, at: 0, setup: Setup::new() }
+    }
+
+    fn put(&mut self, text: &str) -> Result<(), String> {
+        *self.rom.get_mut(self.at).ok_or("past the ROM")? = word(text)?;
+        self.at += 1;
+        Ok(())
+    }
+
+    /// What a step or run gave, against what is told of it.
+    fn judged(&self, before: &Setup, given: &str, answer: &str) -> Result<String, String> {
+        let is_answer = |item: &&str| {
+            let words: Vec<&str> = item.split(' ').collect();
+            matches!(words[..], ["done" | "standing"] | ["refusal", _] | [_, "steps"])
+        };
+        let (answers, items): (Vec<_>, Vec<_>) = answer.split(", ").partition(is_answer);
+        let rest = items.contains(&"rest unchanged");
+        let mut wanted = if rest { before.clone() } else { self.setup.clone() };
+        for item in items.iter().filter(|item| **item != "rest unchanged") {
+            wanted.set(item)?;
+        }
+        let same = answers.join(", ") == given;
+        Ok(match self.setup.difference(&wanted) {
+            None if same => answer.to_string(),
+            None => given.to_string(),
+            Some(difference) => format!("{given}, {difference}"),
+        })
+    }
+
+    fn step(&mut self, emulator: &dyn Emulator) -> String {
+        let Setup { machine, input } = &mut self.setup;
+        match emulator.step(&self.rom[..self.words], machine, input) {
+            0 => "done".to_string(),
+            255 => "standing".to_string(),
+            number => format!("refusal {number}"),
+        }
+    }
+
+    fn run(&mut self, budget: u32, emulator: &dyn Emulator) -> String {
+        let Setup { machine, input } = &mut self.setup;
+        match emulator.run(&self.rom[..self.words], machine, input, budget) {
+            (steps, 0) => format!("{steps} steps"),
+            (steps, number) => format!("{steps} steps, refusal {number}"),
+        }
+    }
+
+    /// A step by itself. The bench is as before when the next line comes.
+    fn row(&self, line: &str, answer: &str, emulator: &dyn Emulator) -> Result<String, String> {
+        let (word, items) = line.split_once(", ").unwrap_or((line, ""));
+        let mut bench = Programs { rom: self.rom.clone(), setup: self.setup.clone(), ..*self };
+        bench.at = 0;
+        bench.put(word)?;
+        bench.with(items)?;
+        let before = bench.setup.clone();
+        let given = bench.step(emulator);
+        let whole = match answer {
+            "nothing" => "done, PC 001, rest unchanged".to_string(),
+            refusal if refusal.starts_with("refusal ") => format!("{refusal}, rest unchanged"),
+            changes => format!("done, PC 001, {changes}, rest unchanged"),
+        };
+        let got = bench.judged(&before, &given, &whole)?;
+        Ok(if got == whole { answer.to_string() } else { got })
+    }
+
+    fn with(&mut self, items: &str) -> Result<(), String> {
+        let mut items = items.split(", ").filter(|item| !item.is_empty());
+        items.try_for_each(|item| self.setup.set(item))
+    }
+}
+
+impl Bench for Programs {
+    fn begin(&mut self, head: Head) {
+        let cleared = Programs::new();
+        match head {
+            Head::Case => *self = cleared,
+            Head::Also => (self.at, self.setup) = (0, cleared.setup),
+            Head::Then => {}
+        }
+    }
+
+    fn given(&mut self, line: &str) -> Result<(), String> {
+        match line.split_once(' ').unwrap_or((line, "")) {
+            ("ORG", address) => self.at = hex(address)?,
+            ("words", count) => self.words = hex(count)?.min(self.rom.len()),
+            ("with", items) => self.with(items)?,
+            _ => line.split(' ').try_for_each(|word| match is_word(word) {
+                true => self.put(word),
+                false => Err(format!("{line} is no line of a program")),
+            })?,
+        }
+        Ok(())
+    }
+
+    fn got(&mut self, line: &str, answer: &str, emulator: &dyn Emulator) -> Result<String, String> {
+        let before = self.setup.clone();
+        let given = match line.split_once(' ').unwrap_or((line, "")) {
+            ("reset", "") => {
+                self.setup.machine = emulator.reset();
+                "done".to_string()
+            }
+            ("step", "") => self.step(emulator),
+            ("run", "") => self.run(BUDGET, emulator),
+            ("run", budget) => self.run(hex(budget)? as u32, emulator),
+            _ => return self.row(line, answer, emulator),
+        };
+        self.judged(&before, &given, answer)
+    }
+}

@@ -1,0 +1,25 @@
+-- The front of a buffer that was written to, and what the reader leaves in buffers that have room.
+-- Assumes nothing.
+use mathlib.Core.Path.{_≡_, _∙_, ap}
+use mathlib.Core.Bool.{true}
+use mathlib.Core.List.{List}
+use Prim.Native.Nat.{ℕ, _≤_}
+use native.Mathlib.Omega.{arith}
+use lib.ListN.{length, take, drop, length-append}
+use lib.Seq.{take-append-seam}
+use Rattle.station_file.specs.Read.{Buffers, station, overlay, fitsIn, filled, placed, readOf}
+use Rattle.station_file.specs.Reading.{Reading, got}
+use Rattle.station_file.specs.Station.{Form, Station, parseOf}
+use Rattle.station_file.specs.Write.{records}
+
+module _ (xs buffer : List ℕ) where
+  pub overlay-front : take (length xs) (overlay xs buffer) ≡ xs
+  overlay-front = take-append-seam xs (drop (length xs) buffer)
+
+  pub overlay-long : length xs ≤ length (overlay xs buffer)
+  overlay-long = omega (arith, length-append xs (drop (length xs) buffer))
+
+pub read-so : (form : Form) (xs : List ℕ) (s : Station) (rest : List ℕ) (b : Buffers) → parseOf form xs ≡ got s rest → fitsIn s b ≡ true
+    → readOf form xs b ≡ record { reply = station (length (s .rom)) (length (s .sheet)) (records s); buffers = filled s b }
+unfolding readOf
+read-so form xs s rest b p f = ap (λ (r : Reading Station). placed r b) p ∙ rw f

@@ -1,0 +1,113 @@
+// The steps, one for each input record, from reset.
+ghost use mathlib.Core.Path.{_≡_};
+ghost use Prim.Native.Nat.{_/_, _≤_};
+ghost use lib.ListN.{getD, length};
+ghost use Rattle.machine.specs.Refusals.{numberOf};
+ghost use Rattle.station_file.specs.Station.{recordBytes};
+ghost use Rattle.transcript.specs.Printing.{Recorded, RecordedTo};
+use crate::Progress;
+use crate::inputs::input_at;
+use crate::line::put_line;
+use cpu::Answer;
+use machine::Input;
+use machine::Machine;
+use machine::Refusal;
+
+fn refusal_number(refusal: Refusal) -> u16
+    ensures { λ r. ⌜ r ≡ numberOf refusal ⌝ }
+{
+    refusal.number() as u16
+}
+
+fn word_at(rom: &[u16], pc: u16) -> u16
+    ensures { λ r. ⌜ r ≡ getD (now (rom .entry)) pc 0 ⌝ }
+{
+    let at = pc as usize;
+    if rom.len() <= at {
+        return 0;
+    }
+    rom[at]
+}
+
+// A refusal prints no line.
+fn stopped(machine: Machine, steps: u16, refusal: Refusal, at: usize) -> Progress
+    ensures { λ r. ⌜ r ≡ record { machine = machine; steps = steps; refusal = numberOf refusal; at = at } ⌝ }
+{
+    Progress {
+        machine: machine,
+        steps: steps,
+        refusal: refusal_number(refusal),
+        at: at,
+    }
+}
+
+// One record. After a refusal nothing changes.
+fn put_record(
+    rom: &[u16],
+    number: u16,
+    input: Input,
+    progress: Progress,
+    out: &mut [u8],
+) -> Progress
+    requires { ⌜ progress .at ≤ 800000 ⌝ }
+    requires { ⌜ progress .steps ≤ 60000 ⌝ }
+    ensures { λ r. ⌜ Recorded (now (rom .entry)) number input progress (now (out .entry)) (now (out .exit)) r ⌝ }
+{
+    if progress.refusal != 0 {
+        return progress;
+    }
+    let at = progress.at;
+    let steps = progress.steps;
+    let before = progress.machine;
+    let control = before.control;
+    let pc = control.pc;
+    let stepped = cpu::step(rom, before, input);
+    let answer = stepped.answer;
+    let after = stepped.machine;
+    match answer {
+        Answer::Done => {
+            let word = text::hex4(word_at(rom, pc));
+            let next = put_line(out, at, number, pc, word, after);
+            let completed = steps + 1;
+            Progress {
+                machine: after,
+                steps: completed,
+                refusal: 0,
+                at: next,
+            }
+        }
+        Answer::Standby => {
+            let next = put_line(out, at, number, pc, [b'-', b'-', b'-', b'-'], after);
+            Progress {
+                machine: after,
+                steps: steps,
+                refusal: 0,
+                at: next,
+            }
+        }
+        Answer::Refused(refusal) => stopped(after, steps, refusal, at),
+    }
+}
+
+// The records in turn, numbered from 1.
+pub fn put_records(rom: &[u16], inputs: &[u8], out: &mut [u8], from: usize) -> Progress
+    requires { ⌜ length (now inputs) ≤ 45045 ⌝ }
+    requires { ⌜ from ≤ 1000 ⌝ }
+    ensures { λ r. ⌜ RecordedTo (now (rom .entry)) (now (inputs .entry)) (length (now (inputs .entry)) / recordBytes) from (now (out .entry)) (now (out .exit)) r ⌝ }
+{
+    let mut progress = Progress {
+        machine: Machine::reset(),
+        steps: 0,
+        refusal: 0,
+        at: from,
+    };
+    let count = inputs.len() / 11;
+    let mut k: usize = 0;
+    while k < count {
+        let input = input_at(inputs, k);
+        let next = put_record(rom, (k + 1) as u16, input, progress, out);
+        progress = next;
+        k += 1;
+    }
+    progress
+}
