@@ -1,5 +1,5 @@
 pub mod Ruled
 pub mod Paths
 pub mod Steps
-pub mod Prefixes
+pub mod Walks
 pub mod Safety

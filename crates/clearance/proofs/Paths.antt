@@ -1,8 +1,9 @@
--- Where control stands on a ROM whose rules hold, and that every flow keeps it there.
+-- Where control stands on a cleared ROM, and that every flow keeps it there. What a rule says is written nowhere here: it comes
+-- from the rule, and is held to what control does.
 -- Assumes nothing.
-use mathlib.Core.Path.{_≡_, _∙_, refl, sym, subst}
-use mathlib.Core.Bool.{Bool, true, false, cond}
-use mathlib.Core.List.{List, [], _∷_}
+use mathlib.Core.Path.{_≡_, _∙_, ap, refl, sym, subst}
+use mathlib.Core.Bool.{Bool, true, false, false≢true}
+use mathlib.Core.List.{List}
 use Prim.Native.Nat.{ℕ, suc, _+_, _-_, _^_, _<_, _≤_}
 use native.Mathlib.Numerals.{add-one}
 use native.Mathlib.Omega.{arith}
@@ -10,180 +11,197 @@ use borrow.Author.Tests.{lt-leb, ne-eqb, eqb-true, eqb-false}
 use lib.Dec.{eqb, leb}
 use lib.ListN.{getD, set, length, length-set}
 use lib.Seq.{getD-set-same, getD-set-other}
+use Rattle.laws.specs.Bit.{bit}
+use Rattle.laws.proofs.Booleans.{both}
 use Rattle.memory.specs.Chip.{Chip}
-use Rattle.control.specs.Control.{Transfer, goes, jump, marked, top, inReach, branchOf, callOf, returnOf, tableOf, standbyOf, onwardOf}
+use Rattle.machine.specs.Parts.{isMarked}
 use Rattle.machine.specs.Ranges.{places}
 use Rattle.machine.specs.declared.Control.{Control}
-use Rattle.laws.proofs.Booleans.{both}
-use Rattle.flow.specs.FlowLaw.{flowControl}
-use Rattle.flow.specs.declared.Flow.{Flow}
-use Rattle.flow.specs.declared.Flow.the-variants.{Onward, Skips, Branches, Calls, Returns, ReturnsSkip, ReadsTable, StandsBy, Barred}
-use Rattle.clearance.specs.Calls.{Tally, counted}
-use Rattle.sheet.specs.Entry.{entryAt, holds, raised, atMost, atLeast}
-use Rattle.clearance.specs.Rules.{Ask, flowAt, next, allMet, skipReturns, rule3, rule4, asks5, rule5, rule6, EveryRule}
+use Rattle.control.specs.Control.{Transfer, refusedControl, nextOf, topOf, inReach, branchOf, callOf, returnOf, tableOf, standbyOf, onwardOf, byArOf, controlOf}
+use Rattle.control.specs.declared.ArOp.{ArOp}
+use Rattle.control.specs.declared.Flow.{Flow}
+use Rattle.control.specs.declared.Flow.the-variants.{Onward, Skips, Branches, Calls, Returns, ReadsTable, StandsBy, ByAr, Refused}
+use Rattle.cpu.specs.Execute.{pastTable}
+use Rattle.sheet.specs.Entry.{Entry, entryAt, holds, raised, atMost}
 use Rattle.sheet.proofs.Entries.{raised-holds, at-most-holds, at-least-holds}
-use Rattle.clearance.proofs.Ruled.{Stands, table-free, asked, first-met, rest-met, found}
+use Rattle.clearance.specs.Calls.{Tally, counted}
+use Rattle.clearance.specs.Rules.{isReturnSkip, flowAt, met}
+use Rattle.clearance.proofs.Ruled.{Cleared, Stands, Ruled, asked, found}
 
-module _ (chip : Chip) (small : chip .levels ≤ places) (some : 0 < chip .levels) (rom sheet : List ℕ) (short : length rom ≤ 2 ^ chip .pcBits)
-    (every : EveryRule chip rom sheet) where
+-- a mark that was set from a condition
+pub marked-bit : (b : Bool) → isMarked (bit b) ≡ b
+marked-bit true = refl
+marked-bit false = refl
+
+module _ (chip : Chip) (rom sheet : List ℕ) where
   abbrev At : ℕ → ℕ → Type 0
-  At w d = Stands chip rom sheet every w d
-
-  abbrev E : ℕ → ℕ
-  E w = entryAt sheet w
-
-  abbrev F : ℕ → Flow
-  F w = flowAt rom w
+  At w d = Stands chip rom sheet w d
 
   abbrev N : ℕ → ℕ
-  N w = next chip w
+  N w = nextOf chip w
 
   -- a stacked address: the word to go back to, and where a RETSK at the level above may come, the one after it
   pub record Back (a k : ℕ) : Type 0 where
     pub plain : At a k
-    pub skipped : (w : ℕ) → At w (suc k) → F w ≡ ReturnsSkip → At (N a) k
+    pub skipped : (w : ℕ) → At w (suc k) → isReturnSkip (flowAt rom w) ≡ true → At (N a) k
 
   pub record OnPath (c : Control) (t : Tally) : Type 0 where
     pub places : length (c .stack) ≡ places
     pub here : At (c .pc) (c .levels)
     pub opened : t .returns + c .levels ≡ t .calls
-    pub skipping : c .skip ≡ true → At (N (c .pc)) (c .levels)
+    pub skipping : isMarked (c .skip) ≡ true → At (N (c .pc)) (c .levels)
     pub stacked : (k : ℕ) → k < c .levels → Back (getD (c .stack) k 0) k
 
+  -- a change of control that is not refused
   pub record Kept (x : Transfer) (t : Tally) : Type 0 where
     pub unrefused : x .refusal ≡ 0
     pub path : OnPath (x .control) t
 
-  module _ (c : Control) (t : Tally) (p : OnPath c t) (calm : c .skip ≡ false) where
+  module _ (g : Cleared chip rom sheet) (c : Control) (t : Tally) (p : OnPath c t) (plain : isMarked (c .skip) ≡ false) where
     abbrev pc : ℕ
     pc = c .pc
 
-    abbrev e : ℕ
-    e = E pc
+    abbrev d : ℕ
+    d = c .levels
 
-    unmarked : {A : Type 0} → c .skip ≡ true → A
-    unmarked s = absurd (let z : _≡_ {A = ℕ} 0 1 = cc in omega arith)
+    abbrev e : Entry
+    e = entryAt sheet pc
+
+    unmarked : {A : Type 0} → isMarked (c .skip) ≡ true → A
+    unmarked s = absurd (false≢true (sym plain ∙ s))
 
     -- control that only goes to another word at the same level
-    moved : (to : ℕ) (skip standby : Bool) → At to (c .levels) → (skip ≡ true → At (N to) (c .levels)) → OnPath (marked skip standby (jump to c)) t
-    moved to skip standby a s = record {
-      places = p .places;
-      here = a;
-      opened = p .opened;
-      skipping = s;
-      stacked = p .stacked;
-    }
+    moved : (to skip standby : ℕ) → At to d → (isMarked skip ≡ true → At (N to) d)
+        → OnPath (record { pc = to; stack = c .stack; levels = d; skip = skip; standby = standby }) t
+    moved to skip standby a s = record { places = p .places; here = a; opened = p .opened; skipping = s; stacked = p .stacked }
 
-    abbrev ask : ℕ → ℕ → Ask
-    ask w f = record { word = w; entry = f }
+    -- a word that a rule names at this word's own level
+    named : (w : ℕ) → met chip rom sheet (record { word = w; entry = e }) ≡ true → At w d
+    named w m = asked chip rom sheet (record { word = w; entry = e }) m d (p .here .level)
 
     near : (to : ℕ) → to < length rom → leb (2 ^ chip .pcBits) to ≡ false
-    near to h = lt-leb (2 ^ chip .pcBits) to (omega arith)
+    near to h = lt-leb (2 ^ chip .pcBits) to (omega (arith, g .short))
 
-    free : atMost (chip .levels - 1) e ≡ true → leb (chip .levels) (c .levels) ≡ false
-    free a = lt-leb (chip .levels) (c .levels) (omega (arith, at-most-holds (chip .levels) (chip .levels - 1) e (c .levels) a (p .here .level)))
+    abbrev Rules : Flow → Type 0
+    Rules f = Ruled chip rom sheet pc f e
 
-    ordinary : (skip : Bool) → At (N pc) (c .levels) → (skip ≡ true → At (N (N pc)) (c .levels)) → Kept (onwardOf chip skip c) t
+    -- Each flow, from the rules of its word.
+
+    goes-on : (skip : Bool) → At (N pc) d → (skip ≡ true → At (N (N pc)) d) → Kept (onwardOf chip skip c) t
     unfolding onwardOf
-    ordinary skip a s = record { unrefused = refl; path = moved (N pc) skip (c .standby) a s }
+    goes-on skip a s = record { unrefused = refl; path = moved (N pc) (bit skip) (c .standby) a (λ q. s (sym (marked-bit skip) ∙ q)) }
 
-    branches : (to : ℕ) → At to (c .levels) → Kept (branchOf chip to c) t
+    onward : Rules Onward → Kept (onwardOf chip false c) t
+    onward r = goes-on false (named _ (both _ _ (r .fourth) .0)) (λ x. absurd (false≢true x))
+
+    skips : (b : Bool) → Rules Skips → Kept (onwardOf chip b c) t
+    skips b r = let m = both _ _ (r .fourth) in goes-on b (named _ (m .0)) (λ _. named _ (both _ _ (m .1) .0))
+
+    branches : (to : ℕ) → Rules (Branches to) → Kept (branchOf chip to c) t
     unfolding branchOf
-    branches to a = rw (near to (a .inside)) (record { unrefused = refl; path = moved to (c .skip) (c .standby) a unmarked })
+    branches to r =
+        let a : At to d = named _ (both _ _ (r .fourth) .0) in
+        rw (near to (a .inside)) (record { unrefused = refl; path = moved to (c .skip) (c .standby) a unmarked })
+
+    tables : Rules ReadsTable → Kept (tableOf chip c) t
+    unfolding tableOf
+    tables r =
+        let l = at-most-holds (chip .levels) _ e d (both (eqb (length rom) _) _ (r .third) .1) (p .here .level) in
+        rw (lt-leb (chip .levels) d (omega (arith, g .some)))
+        (record { unrefused = refl; path = moved (N pc) (c .skip) (c .standby) (named _ (both _ _ (r .fourth) .0)) unmarked })
+
+    -- MOVT finds its table
+    in-table : (ar : ℕ) → ar < 2 ^ 10 → Rules ReadsTable → leb (length rom) ar ≡ false
+    in-table ar h r = lt-leb (length rom) ar (omega (arith, eqb-true (length rom) _ (both (eqb (length rom) _) _ (r .third) .0)))
+
+    stands-by : Rules StandsBy → Kept (standbyOf chip c) t
+    unfolding standbyOf
+    stands-by r = record { unrefused = refl; path = moved (N pc) (c .skip) 1 (named _ (both _ _ (r .fourth) .0)) unmarked }
+
+    by-ar : (op : ArOp) (ar : ℕ) → Rules (ByAr op) → Kept (byArOf chip op ar c) t
+    by-ar op ar r = absurd (false≢true (r .third))
+
+    refuses : (n : ℕ) → Rules (Refused n) → Kept (refusedControl n c) t
+    refuses n r = absurd (false≢true (r .third))
 
     -- CALL stacks the next word
-    pushed : (k : ℕ) (b : Bool) → eqb k (c .levels) ≡ b → k < c .levels + 1 → c .levels < length (c .stack) → Back (N pc) (c .levels)
-        → Back (getD (set (c .stack) (c .levels) (N pc)) k 0) k
-    pushed k true q l i a =
-        let k≡ : k ≡ c .levels = eqb-true k (c .levels) q in
-        rw (k≡, getD-set-same (c .stack) (c .levels) (N pc) 0 i) a
-    pushed k false q l i a =
-        let n : k ≡ c .levels → ⊥ = eqb-false k (c .levels) q in
-        rw (getD-set-other (c .stack) (c .levels) k (N pc) 0 n) (p .stacked k (omega arith))
+    module _ (to : ℕ) (r : Rules (Calls to)) where
+      free : d < chip .levels
+      free = omega (arith, g .some, at-most-holds (chip .levels) _ e d (both _ _ (r .fifth) .0) (p .here .level))
 
-    calls : (to : ℕ) → atMost (chip .levels - 1) e ≡ true → At to (suc (c .levels)) → Back (N pc) (c .levels)
-        → Kept (inReach chip to c (callOf chip to c)) (counted (Calls to) t)
-    unfolding callOf
-    calls to m a b =
-        let l : c .levels ≤ chip .levels - 1 = at-most-holds (chip .levels) (chip .levels - 1) e (c .levels) m (p .here .level) in
-        let i : c .levels < length (c .stack) = rw (p .places) (omega arith) in
-        rw (near to (a .inside), free m)
-        (record {
-          unrefused = refl;
-          path = record {
-            places = length-set (c .stack) (c .levels) (N pc) ∙ p .places;
-            here = subst (At to) (sym (add-one (c .levels))) a;
-            opened = omega (arith, p .opened);
-            skipping = unmarked;
-            stacked = λ k h. pushed k (eqb k (c .levels)) refl h i b;
-          };
-        })
+      higher : holds (chip .levels) (raised e) (suc d) ≡ true
+      higher = raised-holds (chip .levels) (g .some) e (both _ _ (r .fifth) .0) d (p .here .level)
+
+      target : At to (suc d)
+      target = let m = both (atMost _ e) _ (r .fifth) in asked chip rom sheet _ (both _ _ (m .1) .0) (suc d) higher
+
+      back : At (N pc) d
+      back = named _ (both _ _ (r .fourth) .0)
+
+      skipped-back : (w : ℕ) → At w (suc d) → isReturnSkip (flowAt rom w) ≡ true → At (N (N pc)) d
+      skipped-back w s f =
+          let m = both (atMost _ e) _ (r .fifth) in
+          let after = both (met chip rom sheet _) _ (m .1) in
+          named _ (both _ _ (rw (found chip rom sheet w (suc d) _ s f higher) at (after .1)) .0)
+
+      pushed : (k : ℕ) (b : Bool) → eqb k d ≡ b → k < d + 1 → d < length (c .stack) → Back (getD (set (c .stack) d (N pc)) k 0) k
+      pushed k true q l i =
+          let same : k ≡ d = eqb-true k d q in
+          rw (same, getD-set-same (c .stack) d (N pc) 0 i) (record { plain = back; skipped = skipped-back })
+      pushed k false q l i =
+          let n : k ≡ d → ⊥ = eqb-false k d q in
+          rw (getD-set-other (c .stack) d k (N pc) 0 n) (p .stacked k (omega arith))
+
+      calls : Kept (inReach chip to c (callOf chip to c)) (counted (Calls to) t)
+      unfolding callOf
+      calls =
+          let i : d < length (c .stack) = rw (p .places) (omega (arith, free, g .small)) in
+          rw (near to (target .inside), lt-leb (chip .levels) d free)
+          (record {
+            unrefused = refl;
+            path = record {
+              places = length-set (c .stack) d (N pc) ∙ p .places;
+              here = subst (At to) (sym (add-one d)) target;
+              opened = omega (arith, p .opened);
+              skipping = unmarked;
+              stacked = λ k h. pushed k (eqb k d) refl h i;
+            };
+          })
 
     -- RET and RETSK go back
-    popped : (k : ℕ) → k < c .levels - 1 → Back (getD (set (c .stack) (c .levels - 1) 0) k 0) k
-    popped k h = rw (getD-set-other (c .stack) (c .levels - 1) k 0 0 (λ (x : k ≡ c .levels - 1). omega arith)) (p .stacked k (omega arith))
+    module _ (skip : Bool) (r : Rules (Returns skip)) (f : flowAt rom pc ≡ Returns skip) where
+      some-open : 1 ≤ d
+      some-open = at-least-holds (chip .levels) _ e d (r .sixth) (p .here .level)
 
-    returned : (skip : Bool) (f : Flow) → (t' : Tally) → t' .calls ≡ t .calls → t' .returns ≡ t .returns + 1 → atLeast 1 e ≡ true
-        → (skip ≡ true → F pc ≡ ReturnsSkip) → Kept (returnOf chip skip c) t'
-    unfolding returnOf
-    returned skip f t' ec er m s =
-        let l : 1 ≤ c .levels = at-least-holds (chip .levels) 1 e (c .levels) m (p .here .level) in
-        let back : Back (top c) (c .levels - 1) = p .stacked (c .levels - 1) (omega arith) in
-        let up : c .levels ≡ suc (c .levels - 1) = omega arith in
-        rw (ne-eqb (c .levels) 0 (λ (x : c .levels ≡ 0). omega arith))
-        (record {
-          unrefused = refl;
-          path = record {
-            places = length-set (c .stack) (c .levels - 1) 0 ∙ p .places;
-            here = back .plain;
-            opened = omega (arith, p .opened, ec, er);
-            skipping = λ q. back .skipped pc (subst (At pc) up (p .here)) (s q);
-            stacked = popped;
-          };
-        })
+      popped : (k : ℕ) → k < d - 1 → Back (getD (set (c .stack) (d - 1) 0) k 0) k
+      popped k h = rw (getD-set-other (c .stack) (d - 1) k 0 0 (λ (x : k ≡ d - 1). omega arith)) (p .stacked k (omega arith))
 
-    tabled : atMost (chip .levels - 1) e ≡ true → At (N pc) (c .levels) → Kept (tableOf chip c) t
-    unfolding tableOf
-    tabled m a = rw (free m) (record { unrefused = refl; path = moved (N pc) (c .skip) (c .standby) a unmarked })
+      returns : Kept (returnOf chip skip c) (counted (Returns skip) t)
+      unfolding returnOf
+      returns =
+          let back : Back (topOf c) (d - 1) = p .stacked (d - 1) (omega (arith, some-open)) in
+          let up : d ≡ suc (d - 1) = omega (arith, some-open) in
+          rw (ne-eqb d 0 (λ (x : d ≡ 0). omega arith))
+          (record {
+            unrefused = refl;
+            path = record {
+              places = length-set (c .stack) (d - 1) 0 ∙ p .places;
+              here = back .plain;
+              opened = omega (arith, p .opened);
+              skipping = λ q. back .skipped pc (subst (At pc) up (p .here)) (ap isReturnSkip f ∙ sym (marked-bit skip) ∙ q);
+              stacked = popped;
+            };
+          })
 
-    waited : At (N pc) (c .levels) → Kept (standbyOf chip c) t
-    unfolding standbyOf
-    waited a = record { unrefused = refl; path = moved (N pc) (c .skip) true a unmarked }
-
-    answered : (a : Ask) (rest : List Ask) → allMet chip rom sheet (a ∷ rest) ≡ true → holds (chip .levels) (a .entry) (c .levels) ≡ true → At (a .word) (c .levels)
-    answered a rest m h = asked chip rom sheet every a (c .levels) (first-met chip rom sheet every a rest m) h
-
-    -- the second ask of a CALL, where a RETSK returns above it
-    after-call : (to w : ℕ) (b : Bool) → skipReturns chip rom sheet (raised e) ≡ b → b ≡ true
-        → allMet chip rom sheet (cond b (ask (N (N pc)) e ∷ []) []) ≡ true → At (N (N pc)) (c .levels)
-    after-call to w true q s m = answered (ask (N (N pc)) e) [] m (p .here .level)
-    after-call to w false q s m = absurd (let z : _≡_ {A = ℕ} 0 1 = cc in omega arith)
-
-    pub follows : (f : Flow) → F pc ≡ f → (b : Bool) → rule3 chip rom f e ≡ true → rule4 chip rom sheet pc f e ≡ true
-        → rule5 chip rom sheet pc f e ≡ true → rule6 f e ≡ true → Kept (flowControl chip f b c) (counted f t)
-    unfolding flowControl
-    follows Onward q b r3 r4 r5 r6 =
-        ordinary false (answered (ask (N pc) e) [] r4 (p .here .level)) (λ (x : false ≡ true). absurd (let z : _≡_ {A = ℕ} 0 1 = cc in omega arith))
-    follows Skips q b r3 r4 r5 r6 =
-        ordinary b (answered (ask (N pc) e) (ask (N (N pc)) e ∷ []) r4 (p .here .level))
-        (λ _. answered (ask (N (N pc)) e) [] (rest-met chip rom sheet every (ask (N pc) e) (ask (N (N pc)) e ∷ []) r4) (p .here .level))
-    follows (Branches to) q b r3 r4 r5 r6 = branches to (answered (ask to e) [] r4 (p .here .level))
-    follows (Calls to) q b r3 r4 r5 r6 =
-        let m = both (atMost (chip .levels - 1) e) (allMet chip rom sheet (asks5 chip rom sheet pc to e)) r5 in
-        let second = cond (skipReturns chip rom sheet (raised e)) (ask (N (N pc)) e ∷ []) [] in
-        let up = raised-holds (chip .levels) some e (m .0) (c .levels) (p .here .level) in
-        calls to (m .0)
-        (asked chip rom sheet every (ask to (raised e)) (suc (c .levels)) (first-met chip rom sheet every (ask to (raised e)) second (m .1)) up)
-        (record {
-          plain = answered (ask (N pc) e) [] r4 (p .here .level);
-          skipped = λ w s f.
-              after-call to w (skipReturns chip rom sheet (raised e)) refl (found chip rom sheet every w (suc (c .levels)) (raised e) s f up)
-              (rest-met chip rom sheet every (ask to (raised e)) second (m .1));
-        })
-    follows Returns q b r3 r4 r5 r6 =
-        returned false Returns (counted Returns t) refl refl r6 (λ (x : false ≡ true). absurd (let z : _≡_ {A = ℕ} 0 1 = cc in omega arith))
-    follows ReturnsSkip q b r3 r4 r5 r6 = returned true ReturnsSkip (counted ReturnsSkip t) refl refl r6 (λ x. q)
-    follows ReadsTable q b r3 r4 r5 r6 =
-        tabled (table-free chip rom sheet every e r3) (answered (ask (N pc) e) [] r4 (p .here .level))
-    follows StandsBy q b r3 r4 r5 r6 = waited (answered (ask (N pc) e) [] r4 (p .here .level))
-    follows Barred q b r3 r4 r5 r6 = absurd (let z : _≡_ {A = ℕ} 0 1 = cc in omega arith)
+    pub follows : (f : Flow) → flowAt rom pc ≡ f → Rules f → (b : Bool) (ar : ℕ) → ar < 2 ^ 10
+        → Kept (controlOf chip f b ar c) (counted f t) × (pastTable rom ar f ≡ false)
+    unfolding controlOf pastTable
+    follows Onward q r b ar h = (onward r, refl)
+    follows Skips q r b ar h = (skips b r, refl)
+    follows (Branches to) q r b ar h = (branches to r, refl)
+    follows (Calls to) q r b ar h = (calls to r, refl)
+    follows (Returns skip) q r b ar h = (returns skip r q, refl)
+    follows ReadsTable q r b ar h = (tables r, in-table ar h r)
+    follows StandsBy q r b ar h = (stands-by r, refl)
+    follows (ByAr op) q r b ar h = (by-ar op ar r, refl)
+    follows (Refused n) q r b ar h = (refuses n r, refl)

@@ -1,24 +1,38 @@
--- What the rules give at a word that is reached.
+-- What is known of a ROM that is cleared, and what the rules give at a word that is reached.
 -- Assumes nothing.
 use mathlib.Core.Path.{_≡_, _∙_, sym}
 use mathlib.Core.Bool.{Bool, true, _&&_}
-use mathlib.Core.List.{List, _∷_}
-use Prim.Native.Nat.{ℕ, zero, suc, _-_, _^_, _<_, _≤_}
-use native.Mathlib.Nat.{eq-or-lt-of-le, le-of-suc-le-suc, not-suc-le-zero}
+use mathlib.Core.List.{List}
 use mathlib.Core.Logic.{⊎-elim}
-use borrow.Author.Tests.{ltb-true, eqb-true}
-use lib.Dec.{eqb, ltb, lit≤}
+use Prim.Native.Nat.{ℕ, zero, suc, _^_, _<_, _≤_}
+use native.Mathlib.Nat.{eq-or-lt-of-le, le-of-suc-le-suc, not-suc-le-zero}
+use borrow.Author.Tests.{ltb-true}
+use lib.Dec.{ltb, lit≤}
 use lib.ListN.{length}
-use Rattle.memory.specs.Chip.{Chip}
 use Rattle.laws.proofs.Booleans.{both, or-left, or-right}
-use Rattle.flow.specs.declared.Flow.{Flow}
-use Rattle.flow.specs.declared.Flow.the-variants.{ReturnsSkip, ReadsTable}
-use Rattle.sheet.specs.Entry.{entryAt, reached, holds, covers, shares, atMost}
-use Rattle.clearance.specs.Rules.{Ask, isReturnSkip, flowAt, met, allMet, skipReturnBelow, skipReturns, rule3, rule4, rule5, rule6, whereReached, ruleOf, EveryRule}
+use Rattle.memory.specs.Chip.{Chip}
+use Rattle.memory.specs.Range.{cellsInRange}
+use Rattle.memory.specs.Registers.{arOf}
+use Rattle.machine.specs.Ranges.{places, romInRange}
+use Rattle.control.specs.declared.Flow.{Flow}
+use Rattle.cpu.proofs.Ranged.{ArFits}
+use Rattle.sheet.specs.Entry.{Entry, entryAt, reached, holds, shares}
 use Rattle.sheet.proofs.Entries.{holds-reached, covers-holds, shares-both}
+use Rattle.clearance.specs.Rules.{Ask, isReturnSkip, flowAt, met, skipReturnBelow, skipReturns, rule3, rule4, rule5, rule6, whereReached, ruleOf, EveryRule}
 
-module _ (chip : Chip) (rom sheet : List ℕ) (every : EveryRule chip rom sheet) where
-  abbrev E : ℕ → ℕ
+pub record Cleared (chip : Chip) (rom sheet : List ℕ) : Type 0 where
+  -- of the chip: the record has a place for each level, there is a level, and AR holds an address and a table's
+  pub small : chip .levels ≤ places
+  pub some : 0 < chip .levels
+  pub addresses : ArFits chip
+  pub table : (cells : List ℕ) → cellsInRange chip cells ≡ true → arOf cells < 2 ^ 10
+  -- of the ROM
+  pub whole : romInRange chip rom ≡ true
+  pub short : length rom ≤ 2 ^ chip .pcBits
+  pub every : EveryRule chip rom sheet
+
+module _ (chip : Chip) (rom sheet : List ℕ) where
+  abbrev E : ℕ → Entry
   E w = entryAt sheet w
 
   abbrev F : ℕ → Flow
@@ -29,58 +43,47 @@ module _ (chip : Chip) (rom sheet : List ℕ) (every : EveryRule chip rom sheet)
     pub inside : w < length rom
     pub level : holds (chip .levels) (E w) d ≡ true
 
-  there : (w : ℕ) (b : Bool) → reached (chip .levels) (E w) ≡ true → whereReached chip (E w) b ≡ true → b ≡ true
-  there w b r e = sym (rw r) ∙ e
-
-  module _ (w d : ℕ) (s : Stands w d) where
-    at-reached : reached (chip .levels) (E w) ≡ true
-    at-reached = holds-reached (chip .levels) (E w) d (s .level)
-
-    pub third : rule3 chip rom (F w) (E w) ≡ true
-    unfolding ruleOf
-    third = there w _ at-reached (every w 3 (s .inside) (lit≤ tt) (lit≤ tt))
-
-    pub fourth : rule4 chip rom sheet w (F w) (E w) ≡ true
-    unfolding ruleOf
-    fourth = there w _ at-reached (every w 4 (s .inside) (lit≤ tt) (lit≤ tt))
-
-    pub fifth : rule5 chip rom sheet w (F w) (E w) ≡ true
-    unfolding ruleOf
-    fifth = there w _ at-reached (every w 5 (s .inside) (lit≤ tt) (lit≤ tt))
-
-    pub sixth : rule6 (F w) (E w) ≡ true
-    unfolding ruleOf
-    sixth = there w _ at-reached (every w 6 (s .inside) (lit≤ tt) (lit≤ tt))
-
-  -- MOVT stands in a ROM of 1,024 words, and with a free level
-  pub table-whole : (e : ℕ) → rule3 chip rom ReadsTable e ≡ true → length rom ≡ 2 ^ 10
-  table-whole e h = eqb-true (length rom) (2 ^ 10) (both (eqb (length rom) (2 ^ 10)) (atMost (chip .levels - 1) e) h .0)
-
-  pub table-free : (e : ℕ) → rule3 chip rom ReadsTable e ≡ true → atMost (chip .levels - 1) e ≡ true
-  table-free e h = both (eqb (length rom) (2 ^ 10)) (atMost (chip .levels - 1) e) h .1
-
   -- an ask that is met, for a depth that its entry holds
-  pub asked : (a : Ask) (d : ℕ) → met chip rom sheet a ≡ true → holds (chip .levels) (a .entry) d ≡ true → Stands (a .word) d
-  unfolding met
-  asked a d m h =
-      let p = both (ltb (a .word) (length rom)) (covers (chip .levels) (E (a .word)) (a .entry)) m in
-      record { inside = ltb-true (a .word) (length rom) (p .0); level = covers-holds (chip .levels) (E (a .word)) (a .entry) d (p .1) h }
+  module _ (a : Ask) (m : met chip rom sheet a ≡ true) where
+    asked-inside : a .word < length rom
+    unfolding met
+    asked-inside = ltb-true (a .word) (length rom) (both _ _ m .0)
 
-  pub first-met : (a : Ask) (rest : List Ask) → allMet chip rom sheet (a ∷ rest) ≡ true → met chip rom sheet a ≡ true
-  first-met a rest m = both (met chip rom sheet a) (allMet chip rom sheet rest) m .0
+    asked-level : (d : ℕ) → holds (chip .levels) (a .entry) d ≡ true → holds (chip .levels) (E (a .word)) d ≡ true
+    unfolding met
+    asked-level d h = covers-holds (chip .levels) (E (a .word)) (a .entry) d (both (ltb (a .word) _) _ m .1) h
 
-  pub rest-met : (a : Ask) (rest : List Ask) → allMet chip rom sheet (a ∷ rest) ≡ true → allMet chip rom sheet rest ≡ true
-  rest-met a rest m = both (met chip rom sheet a) (allMet chip rom sheet rest) m .1
+    pub asked : (d : ℕ) → holds (chip .levels) (a .entry) d ≡ true → Stands (a .word) d
+    asked d h = record { inside = asked-inside; level = asked-level d h }
 
-  found-below : (n w e : ℕ) → w < n → isReturnSkip (F w) ≡ true → shares (chip .levels) (E w) e ≡ true → skipReturnBelow chip rom sheet n e ≡ true
+  found-below : (n w : ℕ) (e : Entry) → w < n → isReturnSkip (F w) ≡ true → shares (chip .levels) (E w) e ≡ true → skipReturnBelow chip rom sheet n e ≡ true
   found-below zero w e h r s = absurd (not-suc-le-zero h)
   found-below (suc n) w e h r s =
       ⊎-elim
-      (λ (q : w ≡ n). or-left (isReturnSkip (F n) && shares (chip .levels) (E n) e) (skipReturnBelow chip rom sheet n e) (rw (← q, r, s)))
+      (λ (q : w ≡ n). or-left (isReturnSkip (F n) && shares (chip .levels) (E n) e) _ (rw (← q, r, s)))
       (λ (l : w < n). or-right (isReturnSkip (F n) && shares (chip .levels) (E n) e) (skipReturnBelow chip rom sheet n e) (found-below n w e l r s))
       (eq-or-lt-of-le (le-of-suc-le-suc h))
 
   -- a reached RETSK at a depth that an entry holds is found
-  pub found : (w d e : ℕ) → Stands w d → F w ≡ ReturnsSkip → holds (chip .levels) e d ≡ true → skipReturns chip rom sheet e ≡ true
+  pub found : (w d : ℕ) (e : Entry) → Stands w d → isReturnSkip (F w) ≡ true → holds (chip .levels) e d ≡ true → skipReturns chip rom sheet e ≡ true
   unfolding skipReturns
-  found w d e s f h = found-below (length rom) w e (s .inside) (rw f) (shares-both (chip .levels) (E w) e d (s .level) h)
+  found w d e s f h = found-below (length rom) w e (s .inside) f (shares-both (chip .levels) (E w) e d (s .level) h)
+
+  -- the rules of a reached word
+  pub record Ruled (w : ℕ) (f : Flow) (e : Entry) : Type 0 where
+    pub third : rule3 chip rom f e ≡ true
+    pub fourth : rule4 chip rom sheet w f e ≡ true
+    pub fifth : rule5 chip rom sheet w f e ≡ true
+    pub sixth : rule6 f e ≡ true
+
+  pub ruled : EveryRule chip rom sheet → (w d : ℕ) → Stands w d → Ruled w (F w) (E w)
+  unfolding ruleOf
+  ruled every w d s =
+      let there : (b : Bool) → whereReached chip (E w) b ≡ true → b ≡ true
+      = λ b e. sym (rw (holds-reached (chip .levels) (E w) d (s .level))) ∙ e in
+      record {
+        third = there _ (every w 3 (s .inside) (lit≤ tt) (lit≤ tt));
+        fourth = there _ (every w 4 (s .inside) (lit≤ tt) (lit≤ tt));
+        fifth = there _ (every w 5 (s .inside) (lit≤ tt) (lit≤ tt));
+        sixth = there _ (every w 6 (s .inside) (lit≤ tt) (lit≤ tt));
+      }

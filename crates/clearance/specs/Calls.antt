@@ -4,33 +4,32 @@
 use mathlib.Core.Bool.{Bool, _&&_, cond}
 use mathlib.Core.List.{List}
 use Prim.Native.Nat.{ℕ, zero, suc, _+_}
-use lib.ListN.{getD}
 use Rattle.memory.specs.Chip.{Chip}
-use Rattle.execution.specs.Reply.{Reply, done, inStandby, refused}
-use Rattle.cpu.specs.Answers.{refusalOf}
-use Rattle.cpu.specs.InPlace.{stepInPlaceOf, runInPlaceOf}
+use Rattle.machine.specs.Parts.{isMarked}
 use Rattle.machine.specs.Ranges.{inputInRange, budgetInRange}
-use Rattle.cpu.specs.Run.{runOf}
-use Rattle.cpu.specs.Step.{stepOf}
 use Rattle.machine.specs.declared.Input.{Input}
 use Rattle.machine.specs.declared.Machine.{Machine}
-use Rattle.flow.specs.Flow.{wordFlow}
-use Rattle.flow.specs.declared.Flow.{Flow}
-use Rattle.flow.specs.declared.Flow.the-variants.{Onward, Skips, Branches, Calls, Returns, ReturnsSkip, ReadsTable, StandsBy, Barred}
+use Rattle.control.specs.declared.Flow.{Flow}
+use Rattle.control.specs.declared.Flow.the-variants.{Onward, Skips, Branches, Calls, Returns, ReadsTable, StandsBy, ByAr, Refused}
+use Rattle.cpu.specs.Reply.{Reply, done, inStandby, refused, refusalOf}
+use Rattle.cpu.specs.Run.{runOf}
+use Rattle.cpu.specs.Step.{stepOf}
+use Rattle.clearance.specs.Rules.{flowAt}
 
--- a call of the single step or of the counted run, by value or in place, with its own inputs and budget
-pub data Call : Type 0 where
-  step : Input → Call
-  run : Input → ℕ → Call
-  stepInPlace : Input → Call
-  runInPlace : Input → ℕ → Call
+-- "in each form that they have": the record by value, or lent and left changed
+pub data CallForm : Type 0 where
+  byValue : CallForm
+  inPlace : CallForm
+
+-- "the single step and the counted run", each with its own inputs and budget
+pub data HostCall : Type 0 where
+  step : CallForm → Input → HostCall
+  run : CallForm → Input → ℕ → HostCall
 
 -- the call's own inputs and budget are in range
-abbrev pub ownInRange : Call → Bool
-ownInRange (step i) = inputInRange i
-ownInRange (run i budget) = inputInRange i && budgetInRange budget
-ownInRange (stepInPlace i) = inputInRange i
-ownInRange (runInPlace i budget) = inputInRange i && budgetInRange budget
+abbrev pub ownInRange : HostCall → Bool
+ownInRange (step form i) = inputInRange i
+ownInRange (run form i budget) = inputInRange i && budgetInRange budget
 
 -- CALLs, and RETs and RETSKs, among the words that ran
 pub record Tally : Type 0 where
@@ -46,11 +45,11 @@ counted Onward t = t
 counted Skips t = t
 counted (Branches to) t = t
 counted (Calls to) t = record { calls = t .calls + 1; returns = t .returns }
-counted Returns t = record { calls = t .calls; returns = t .returns + 1 }
-counted ReturnsSkip t = record { calls = t .calls; returns = t .returns + 1 }
+counted (Returns skip) t = record { calls = t .calls; returns = t .returns + 1 }
 counted ReadsTable t = t
 counted StandsBy t = t
-counted Barred t = t
+counted (ByAr op) t = t
+counted (Refused n) t = t
 
 -- a completed step counts its word, unless that was skipped; a step that answers "standing" or is refused counts nothing
 abbrev pub afterReply : Reply → Bool → Flow → Tally → Tally
@@ -59,22 +58,18 @@ afterReply inStandby skipped f t = t
 afterReply (refused n) skipped f t = t
 
 module _ (chip : Chip) (rom : List ℕ) where
-  -- the tally after a step; a step with its PC past the ROM is refused, and then its word is not counted
+  -- the tally after a step
   abbrev pub stepTally : Input → Machine → Tally → Tally
-  stepTally i m t = afterReply ((stepOf chip rom i m) .reply) (m .control .skip) (wordFlow (getD rom (m .control .pc) 0)) t
+  stepTally i m t = afterReply ((stepOf chip rom i m) .reply) (isMarked (m .control .skip)) (flowAt rom (m .control .pc)) t
 
-  -- what a call answers, its refusal or 0, and the record that it returns or leaves
-  abbrev pub refusalAt : Call → Machine → ℕ
-  refusalAt (step i) m = refusalOf ((stepOf chip rom i m) .reply)
-  refusalAt (run i budget) m = (runOf chip rom i budget m) .refusal
-  refusalAt (stepInPlace i) m = refusalOf ((stepInPlaceOf chip rom i m) .reply)
-  refusalAt (runInPlace i budget) m = (runInPlaceOf chip rom i budget m) .refusal
+  -- what a call answers, its refusal or 0, and the record that it returns or leaves; the same in each form
+  abbrev pub refusalAt : HostCall → Machine → ℕ
+  refusalAt (step form i) m = refusalOf ((stepOf chip rom i m) .reply)
+  refusalAt (run form i budget) m = (runOf chip rom i budget m) .refusal
 
-  abbrev pub leftBy : Call → Machine → Machine
-  leftBy (step i) m = (stepOf chip rom i m) .machine
-  leftBy (run i budget) m = (runOf chip rom i budget m) .machine
-  leftBy (stepInPlace i) m = (stepInPlaceOf chip rom i m) .machine
-  leftBy (runInPlace i budget) m = (runInPlaceOf chip rom i budget m) .machine
+  abbrev pub leftBy : HostCall → Machine → Machine
+  leftBy (step form i) m = (stepOf chip rom i m) .machine
+  leftBy (run form i budget) m = (runOf chip rom i budget m) .machine
 
   -- the tally after so many completed steps of a run: each counts on the record that a run of the steps before it leaves
   unfoldable pub runTally : Input → ℕ → Machine → Tally → Tally
@@ -82,8 +77,6 @@ module _ (chip : Chip) (rom : List ℕ) where
   runTally i (suc k) m t = stepTally i ((runOf chip rom i k m) .machine) (runTally i k m t)
 
   -- "Each completed step of a run counts, in a refused run too"
-  abbrev pub tallyAfter : Call → Machine → Tally → Tally
-  tallyAfter (step i) m t = stepTally i m t
-  tallyAfter (run i budget) m t = runTally i ((runOf chip rom i budget m) .steps) m t
-  tallyAfter (stepInPlace i) m t = stepTally i m t
-  tallyAfter (runInPlace i budget) m t = runTally i ((runInPlaceOf chip rom i budget m) .steps) m t
+  abbrev pub tallyAfter : HostCall → Machine → Tally → Tally
+  tallyAfter (step form i) m t = stepTally i m t
+  tallyAfter (run form i budget) m t = runTally i ((runOf chip rom i budget m) .steps) m t

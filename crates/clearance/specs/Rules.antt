@@ -6,11 +6,11 @@ use mathlib.Core.Path.{_≡_}
 use Prim.Native.Nat.{ℕ, zero, suc, _-_, _^_, _<_, _≤_}
 use lib.Dec.{eqb, ltb}
 use lib.ListN.{getD, length}
-use Rattle.laws.specs.Wrap.{wrapNext}
 use Rattle.memory.specs.Chip.{Chip}
-use Rattle.flow.specs.Flow.{wordFlow}
-use Rattle.flow.specs.declared.Flow.{Flow}
-use Rattle.flow.specs.declared.Flow.the-variants.{Onward, Skips, Branches, Calls, Returns, ReturnsSkip, ReadsTable, StandsBy, Barred}
+use Rattle.control.specs.Control.{nextOf}
+use Rattle.control.specs.Flow.{wordFlow}
+use Rattle.control.specs.declared.Flow.{Flow}
+use Rattle.control.specs.declared.Flow.the-variants.{Onward, Skips, Branches, Calls, Returns, ReadsTable, StandsBy, ByAr, Refused}
 use Rattle.sheet.specs.Entry.{Entry, entryAt, reached, proper, holds, covers, shares, raised, atMost, atLeast}
 
 abbrev pub isReturnSkip : Flow → Bool
@@ -18,24 +18,27 @@ isReturnSkip Onward = false
 isReturnSkip Skips = false
 isReturnSkip (Branches to) = false
 isReturnSkip (Calls to) = false
-isReturnSkip Returns = false
-isReturnSkip ReturnsSkip = true
+isReturnSkip (Returns skip) = skip
 isReturnSkip ReadsTable = false
 isReturnSkip StandsBy = false
-isReturnSkip Barred = false
+isReturnSkip (ByAr op) = false
+isReturnSkip (Refused n) = false
 
 -- a word that a rule names, and the entry that its own entry must cover
 pub record Ask : Type 0 where
   pub word : ℕ
   pub entry : Entry
 
--- of a word that lies in the ROM: the rules are tried at no other
-abbrev pub flowAt : List ℕ → ℕ → Flow
-flowAt rom w = wordFlow (getD rom w 0)
+-- what stands for a word past the ROM: opcode 7 with row and column 0, which is no instruction
+abbrev pub noWord : ℕ
+noWord = 0b00111_000_0000_0000
 
--- "Next" is PC + 1, 0 after 1,023
-abbrev pub next : Chip → ℕ → ℕ
-next chip w = wrapNext (chip .pcBits) w
+-- the ROM word at an address
+abbrev pub wordAt : List ℕ → ℕ → ℕ
+wordAt rom w = getD rom w noWord
+
+abbrev pub flowAt : List ℕ → ℕ → Flow
+flowAt rom w = wordFlow (wordAt rom w)
 
 module _ (chip : Chip) (rom sheet : List ℕ) where
   -- "A word named below must lie in the ROM, or the rule that names it is broken"
@@ -71,24 +74,24 @@ rule3 chip rom Onward e = true
 rule3 chip rom Skips e = true
 rule3 chip rom (Branches to) e = true
 rule3 chip rom (Calls to) e = true
-rule3 chip rom Returns e = true
-rule3 chip rom ReturnsSkip e = true
+rule3 chip rom (Returns skip) e = true
 rule3 chip rom ReadsTable e = eqb (length rom) (2 ^ 10) && atMost (chip .levels - 1) e
 rule3 chip rom StandsBy e = true
-rule3 chip rom Barred e = false
+rule3 chip rom (ByAr op) e = false
+rule3 chip rom (Refused n) e = false
 
 -- 4: except after BR, RET and RETSK next has the word's level; after a skip so has the word after next, and after BR its
--- target. What is barred breaks rule 3 already.
+-- target. What goes by AR or is refused breaks rule 3 already.
 abbrev pub asks4 : Chip → ℕ → Flow → Entry → List Ask
-asks4 chip w Onward e = record { word = next chip w; entry = e } ∷ []
-asks4 chip w Skips e = record { word = next chip w; entry = e } ∷ record { word = next chip (next chip w); entry = e } ∷ []
+asks4 chip w Onward e = record { word = nextOf chip w; entry = e } ∷ []
+asks4 chip w Skips e = record { word = nextOf chip w; entry = e } ∷ record { word = nextOf chip (nextOf chip w); entry = e } ∷ []
 asks4 chip w (Branches to) e = record { word = to; entry = e } ∷ []
-asks4 chip w (Calls to) e = record { word = next chip w; entry = e } ∷ []
-asks4 chip w Returns e = []
-asks4 chip w ReturnsSkip e = []
-asks4 chip w ReadsTable e = record { word = next chip w; entry = e } ∷ []
-asks4 chip w StandsBy e = record { word = next chip w; entry = e } ∷ []
-asks4 chip w Barred e = []
+asks4 chip w (Calls to) e = record { word = nextOf chip w; entry = e } ∷ []
+asks4 chip w (Returns skip) e = []
+asks4 chip w ReadsTable e = record { word = nextOf chip w; entry = e } ∷ []
+asks4 chip w StandsBy e = record { word = nextOf chip w; entry = e } ∷ []
+asks4 chip w (ByAr op) e = []
+asks4 chip w (Refused n) e = []
 
 module _ (chip : Chip) (rom sheet : List ℕ) where
   abbrev pub rule4 : ℕ → Flow → Entry → Bool
@@ -99,18 +102,18 @@ module _ (chip : Chip) (rom sheet : List ℕ) where
   abbrev pub asks5 : ℕ → ℕ → Entry → List Ask
   asks5 w to e =
       record { word = to; entry = raised e }
-      ∷ cond (skipReturns chip rom sheet (raised e)) (record { word = next chip (next chip w); entry = e } ∷ []) []
+      ∷ cond (skipReturns chip rom sheet (raised e)) (record { word = nextOf chip (nextOf chip w); entry = e } ∷ []) []
 
   abbrev pub rule5 : ℕ → Flow → Entry → Bool
   rule5 w Onward e = true
   rule5 w Skips e = true
   rule5 w (Branches to) e = true
   rule5 w (Calls to) e = atMost (chip .levels - 1) e && allMet chip rom sheet (asks5 w to e)
-  rule5 w Returns e = true
-  rule5 w ReturnsSkip e = true
+  rule5 w (Returns skip) e = true
   rule5 w ReadsTable e = true
   rule5 w StandsBy e = true
-  rule5 w Barred e = true
+  rule5 w (ByAr op) e = true
+  rule5 w (Refused n) e = true
 
 -- 6: RET and RETSK at level 1 or more
 abbrev pub rule6 : Flow → Entry → Bool
@@ -118,11 +121,11 @@ rule6 Onward e = true
 rule6 Skips e = true
 rule6 (Branches to) e = true
 rule6 (Calls to) e = true
-rule6 Returns e = atLeast 1 e
-rule6 ReturnsSkip e = atLeast 1 e
+rule6 (Returns skip) e = atLeast 1 e
 rule6 ReadsTable e = true
 rule6 StandsBy e = true
-rule6 Barred e = true
+rule6 (ByAr op) e = true
+rule6 (Refused n) e = true
 
 -- rules 3 to 6 are those of reached words
 abbrev pub whereReached : Chip → Entry → Bool → Bool

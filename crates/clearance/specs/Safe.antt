@@ -13,7 +13,7 @@ use Rattle.machine.specs.Parts.{resetMachine}
 use Rattle.cpu.specs.Run.{runOf}
 use Rattle.machine.specs.declared.Input.{Input}
 use Rattle.machine.specs.declared.Machine.{Machine}
-use Rattle.clearance.specs.Calls.{Call, step, run, stepInPlace, runInPlace, ownInRange, Tally, noCalls, runTally, refusalAt, leftBy, tallyAfter}
+use Rattle.clearance.specs.Calls.{HostCall, step, run, ownInRange, Tally, noCalls, runTally, refusalAt, leftBy, tallyAfter}
 use Rattle.sheet.specs.Entry.{entryAt, holds}
 
 module _ (chip : Chip) (rom sheet : List ℕ) where
@@ -25,7 +25,7 @@ module _ (chip : Chip) (rom sheet : List ℕ) where
     pub level : holds (chip .levels) (entryAt sheet (m .control .pc)) (m .control .levels) ≡ true
 
   -- a call that has its own inputs and budget in range is not refused, and no call with a number other than 1
-  pub record Allowed (c : Call) (m : Machine) : Type 0 where
+  pub record Allowed (c : HostCall) (m : Machine) : Type 0 where
     pub answered : ownInRange c ≡ true → refusalAt chip rom c m ≡ 0
     pub onlyOne : (refusalAt chip rom c m ≡ 0) ⊎ (refusalAt chip rom c m ≡ 1)
 
@@ -35,16 +35,14 @@ module _ (chip : Chip) (rom sheet : List ℕ) where
   Within i budget m t =
       (k : ℕ) → k ≤ (runOf chip rom i budget m) .steps → Moment ((runOf chip rom i k m) .machine) (runTally chip rom i k m t)
 
-  abbrev pub During : Call → Machine → Tally → Type 0
-  During (step i) m t = Unit
-  During (run i budget) m t = Within i budget m t
-  During (stepInPlace i) m t = Unit
-  During (runInPlace i budget) m t = Within i budget m t
+  abbrev pub During : HostCall → Machine → Tally → Type 0
+  During (step form i) m t = Unit
+  During (run form i budget) m t = Within i budget m t
 
   -- from a record and the tally so far: the moment before the first call and after every call, and what each call does
-  abbrev pub Good : Machine → Tally → List Call → Type 0
+  abbrev pub Good : Machine → Tally → List HostCall → Type 0
   Good m t [] = Moment m t
   Good m t (c ∷ cs) = Moment m t × (Allowed c m × (During c m t × Good (leftBy chip rom c m) (tallyAfter chip rom c m t) cs))
 
   abbrev pub Safe : Type 0
-  Safe = (calls : List Call) → Good resetMachine noCalls calls
+  Safe = (calls : List HostCall) → Good resetMachine noCalls calls

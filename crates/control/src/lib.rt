@@ -1,6 +1,7 @@
 // What an instruction does to the PC, the stack and the marks: a function of its flow. The control stands in two parts while the
 // machine steps: the stack where it is, and the rest in a small struct.
 mod stack;
+mod words;
 
 ghost use mathlib.Core.Path.{_≡_};
 ghost use mathlib.Core.List.{List};
@@ -11,6 +12,7 @@ ghost use Rattle.control.specs.Transfers.{transferOf, withStack};
 use machine::Refusal;
 use stack::address_on;
 use stack::clear;
+pub use words::of_word;
 
 // The instructions that go by AR: BR @AR, CALL @AR, PUSH AR and POP AR.
 pub enum ArOp {

@@ -1,16 +1,26 @@
--- What the arm `_` of a match on a number knows, `c .match .rest`: the number is none of the other arms' keys. So what a
--- computed test shows of each number that is no key, or lies outside the arms that are ranges, holds in that arm.
+-- What an arm of a match on a number knows. One with keys, `c .match .keys1`: the number is one of them, so what is computed at
+-- each key holds in that arm. The arm `_`, `c .match .rest`: the number is none of the other arms' keys. So what a computed test
+-- shows of each number that is no key, or lies outside the arms that are ranges, holds in that arm.
 -- Assumes nothing.
-use mathlib.Core.List.{List, [], _∷_}
+use mathlib.Core.Path.{_≡_, refl, ap}
+use mathlib.Core.List.{List, [], _∷_, map}
 use mathlib.Core.Bool.{Bool, true, false, _&&_, _||_}
 use Prim.Native.Nat.{ℕ, _<_, _≤_}
 use native.Mathlib.Omega.{arith}
-use mathlib.Core.Logic.{_⊎_, ⊎-elim}
+use mathlib.Core.Logic.{_⊎_, inl, inr, ⊎-elim}
 use mir.Val.{hasKey}
 use types.Run.{OneOf, hit}
 use lib.Dec.{T, leb, leb→le}
+use lib.ListN.{length, replicate}
 use Rattle.laws.specs.Every.{every}
 use Rattle.laws.proofs.Every.{every-at, and-left, and-right}
+
+-- f is v at each key of an arm
+pub in-arm : {A : Type 0} (f : ℕ → A) (v : A) (ks : List ℕ) → map f ks ≡ replicate (length ks) v → (x : ℕ) → OneOf ks x → v ≡ f x
+in-arm f v [] e x h = absurd h
+in-arm f v (k ∷ []) e x h = let at : v ≡ f k = cc in rw h at
+in-arm f v (k ∷ l ∷ ks) e x (inl h) = let at : v ≡ f k = cc in rw h at
+in-arm f v (k ∷ l ∷ ks) e x (inr h) = in-arm f v (l ∷ ks) (cc) x h
 
 pub or-else : (a b : Bool) → (T a → ⊥) → T (a || b) → T b
 or-else true b h t = absurd (h tt)

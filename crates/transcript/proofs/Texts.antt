@@ -16,7 +16,8 @@ use Rattle.station_file.specs.Station.{Station, recordBytes}
 use Rattle.transcript.specs.declared.Progress as code
 use Rattle.transcript.specs.Printing.{Wrote, RecordedTo}
 use Rattle.transcript.specs.Text.{space, newline, sheetText, noneText, endText, decimal}
-use Rattle.transcript.specs.Transcript.{verdictText, sheetLine, endLine, stationText, transcriptOf, Left, printed, denied, printOf}
+use Rattle.transcript.specs.Transcript.{verdictText, sheetLine, endLine, stationText, transcriptOf}
+use Rattle.transcript.specs.Print.{Print, printed, refused, printOf}
 use Rattle.transcript.proofs.Puts.{joined, reworded, fitting}
 
 module _ (s : Station) {x y z : List ℕ} {r q : ℕ} where
@@ -24,7 +25,7 @@ module _ (s : Station) {x y z : List ℕ} {r q : ℕ} where
   unfolding sheetLine
   no-sheet e f g = rw (eq-eqb (length (s .sheet)) 0 e) (joined 21 (omega arith) f g)
 
-  pub checked : (length (s .sheet) ≡ 0 → ⊥) → (v : verdict.Answer) → v ≡ verdict.verifyOf upd17132 (s .rom) (s .sheet)
+  pub checked : (length (s .sheet) ≡ 0 → ⊥) → (v : verdict.CheckAnswer) → v ≡ verdict.verifyOf upd17132 (s .rom) (s .sheet)
       → Wrote 6 0 sheetText x y r → {j : ℕ} → j ≤ 15 → Wrote j r (verdictText v ++ newline) y z q → Wrote 21 0 (sheetLine s) x z q
   unfolding sheetLine
   checked n v e f h g = rw (ne-eqb (length (s .sheet)) 0 n, ← e) (joined 21 (omega arith) f g)
@@ -39,12 +40,12 @@ module _ (s : Station) {w x y z : List ℕ} {from r : ℕ} (p : code.Progress) w
       joined 100000 (omega arith) (joined 99984 (omega arith) f (g .wrote)) (reworded (ap endLine (g .same)) e)
 
 module _ (file out : List ℕ) (n : ℕ) where
-  pub too-short : n ≡ 0 + length (transcriptOf file) → length out < n → record { answer = denied 25; out = out } ≡ printOf file out
+  pub too-short : n ≡ 0 + length (transcriptOf file) → length out < n → record { reply = refused 25; out = out } ≡ printOf file out
   unfolding printOf
   too-short e h = rw (lt-leb (length (transcriptOf file)) (length out) (omega arith))
 
   pub printed-whole : (after : List ℕ) → n ≡ 0 + length (transcriptOf file) → n ≤ length out → after ≡ sets out 0 (transcriptOf file)
-      → record { answer = printed n; out = after } ≡ printOf file out
+      → record { reply = printed n; out = after } ≡ printOf file out
   unfolding printOf
   printed-whole after e h f =
       let l : n ≡ length (transcriptOf file) = omega arith in
@@ -54,18 +55,18 @@ module _ (file out : List ℕ) (n : ℕ) where
 -- a text that was printed lies within the buffer
 module _ (file out after : List ℕ) (n : ℕ) where
   picked : (b : Bool) → leb (length (transcriptOf file)) (length out) ≡ b
-      → _≡_ {A = Left} (record { answer = printed n; out = after })
-      (cond b (record { answer = printed (length (transcriptOf file)); out = overlay (transcriptOf file) out }) (record { answer = denied 25; out = out }))
+      → _≡_ {A = Print} (record { reply = printed n; out = after })
+      (cond b (record { reply = printed (length (transcriptOf file)); out = overlay (transcriptOf file) out }) (record { reply = refused 25; out = out }))
       → n ≤ length after
   picked true h e =
-      let f = ap (λ (x : Left). x .answer) e in
+      let f = ap (λ (x : Print). x .reply) e in
       let l : n ≡ length (transcriptOf file) = cc in
       let t = transcriptOf file in
-      omega (arith, ap length (ap (λ (x : Left). x .out) e), length-append t (drop (length t) out))
+      omega (arith, ap length (ap (λ (x : Print). x .out) e), length-append t (drop (length t) out))
   picked false h e =
-      let f = ap (λ (x : Left). x .answer) e in
+      let f = ap (λ (x : Print). x .reply) e in
       absurd (let z : _≡_ {A = ℕ} 0 1 = cc in omega arith)
 
-  pub within : record { answer = printed n; out = after } ≡ printOf file out → n ≤ length after
+  pub within : record { reply = printed n; out = after } ≡ printOf file out → n ≤ length after
   unfolding printOf
   within e = picked (leb (length (transcriptOf file)) (length out)) refl e

@@ -3,7 +3,7 @@
 use mathlib.Core.Bool.{cond}
 use mathlib.Core.List.{List, [], _∷_, _++_}
 use Prim.Native.Nat.{ℕ, zero, suc, _+_, _/_}
-use lib.Dec.{eqb, leb}
+use lib.Dec.{eqb}
 use lib.ListN.{getD, length, take, drop}
 use Rattle.text.specs.Hex.{hexDigitsOf}
 use Rattle.memory.specs.Chip.{upd17132}
@@ -14,7 +14,6 @@ use Rattle.cpu.specs.Step.{stepOf}
 use Rattle.machine.specs.declared.Input.{Input}
 use Rattle.machine.specs.declared.Machine.{Machine}
 use Rattle.verifier.specs.Verdict as verdict
-use Rattle.station_file.specs.Read.{overlay}
 use Rattle.station_file.specs.Reading as reading
 use Rattle.station_file.specs.Station.{Station, form1, recordBytes, parseOf}
 use Rattle.transcript.specs.Text.{space, newline, fileText, sheetText, noneText, passText, failText, endText, dashes, hex1, hex3, decimal}
@@ -28,7 +27,7 @@ inputsOf (suc n) xs =
 
 -- "first SHEET NONE, SHEET PASS, or SHEET FAIL with word (three hex digits) and rule"; a sheet that was read has the ROM's
 -- length, so the check has no refusal for it
-abbrev pub verdictText : verdict.Answer → List ℕ
+abbrev pub verdictText : verdict.CheckAnswer → List ℕ
 verdictText verdict.pass = passText
 verdictText (verdict.fail word rule) = failText ++ hex3 word ++ (space ∷ []) ++ decimal rule
 verdictText (verdict.refused n) = noneText
@@ -105,19 +104,3 @@ readText (reading.refused n) = fileText ++ decimal n ++ newline
 
 unfoldable pub transcriptOf : List ℕ → List ℕ
 transcriptOf file = readText (parseOf form1 file)
-
--- the text in a lent buffer: its length, or refusal 25 and nothing written
-pub data Printed : Type 0 where
-  printed : ℕ → Printed
-  denied : ℕ → Printed
-
-pub record Left : Type 0 where
-  pub answer : Printed
-  pub out : List ℕ
-
-unfoldable pub printOf : List ℕ → List ℕ → Left
-printOf file out =
-    let text = transcriptOf file in
-    cond (leb (length text) (length out))
-    (record { answer = printed (length text); out = overlay text out })
-    (record { answer = denied 25; out = out })

@@ -1,4 +1,5 @@
 pub mod OneReturn
+pub mod OtherFlows
 pub mod Depths
 pub mod Exact
 pub mod Scan

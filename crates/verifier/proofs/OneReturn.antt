@@ -1,83 +1,53 @@
--- RETSK alone returns with a skip, and it has one word.
+-- RETSK alone returns with a skip, and it has one word: tested at each opcode, and at each of the 2,048 sub-words of opcode 7.
 -- Assumes nothing.
 use mathlib.Core.Path.{_≡_, _∙_, ap, refl, subst, sym}
-use mathlib.Core.Bool.{Bool, true, false, cond}
-use Prim.Native.Nat.{ℕ, _<_}
+use mathlib.Core.Bool.{Bool, true, false, not, _||_}
+use Prim.Native.Nat.{ℕ, _/_, _%_, _<_}
+use native.Mathlib.Omega.{arith}
 use borrow.Author.Tests.{eq-eqb, ne-eqb}
-use lib.Dec.{T, eqb}
-use Rattle.laws.proofs.Every.{passed}
-use Rattle.isa.specs.Answers.{Decoding, is, refused, Encoding}
-use Rattle.isa.specs.Decode.{decodeOf, entryOf, overview, columns}
-use Rattle.isa.specs.Encode.{encodeOf, wordOf, fits}
-use Rattle.isa.specs.declared.SkipOp.the-variants.{Skt, Skf, Ske, Skne, Skge, Sklt}
-use Rattle.isa.specs.declared.FixedOp.the-variants.{IncAr, IncIx, Movt, PushAr, PopAr, BrAr, CallAr, Ret, Retsk, Reti, Ei, Di, Nop}
-use Rattle.isa.specs.declared.Instruction.{Instruction}
-use Rattle.isa.specs.declared.Instruction.the-variants.{AluRegister, AluImmediate, Skip, Rorc, Ld, St, MovToIndirect, MovFromIndirect, MovImmediate, Peek, Poke, Get, Put, Br, Call, Stop, Halt, Fixed}
-use Rattle.isa_laws.proofs.RoundTrip.{its-word}
-use Rattle.cpu.specs.Step.{inBase, runnable}
-use Rattle.flow.specs.Flow.{flowOf, decodedFlow, wordFlow}
+use lib.Dec.{T, T-not, eqb, eqb→eq}
+use Rattle.laws.specs.Every.{every}
+use Rattle.laws.proofs.Every.{every-at, passed}
+use Rattle.isa.specs.Decode.{decodeOf, groupOf, entryOf, overview, columns}
+use Rattle.isa.proofs.Group.{sub-m, sub-x}
+use Rattle.control.specs.Flow.{decodedFlow, wordFlow}
 use Rattle.clearance.specs.Rules.{isReturnSkip}
 
 -- the word of RETSK
 abbrev pub retsk : ℕ
-retsk = 0b0011100111100000
+retsk = 0b00111_001_1110_0000
 
-only : (i : Instruction) → T (isReturnSkip (flowOf i)) → i ≡ Fixed Retsk
-only (AluRegister op r m) t = absurd t
-only (AluImmediate op m n4) t = absurd t
-only (Skip Skt m n4) t = absurd t
-only (Skip Skf m n4) t = absurd t
-only (Skip Ske m n4) t = absurd t
-only (Skip Skne m n4) t = absurd t
-only (Skip Skge m n4) t = absurd t
-only (Skip Sklt m n4) t = absurd t
-only (Rorc r) t = absurd t
-only (Ld r m) t = absurd t
-only (St m r) t = absurd t
-only (MovToIndirect r m) t = absurd t
-only (MovFromIndirect m r) t = absurd t
-only (MovImmediate m n4) t = absurd t
-only (Peek rf) t = absurd t
-only (Poke rf) t = absurd t
-only (Get p) t = absurd t
-only (Put p) t = absurd t
-only (Br addr) t = absurd t
-only (Call addr) t = absurd t
-only (Stop s) t = absurd t
-only (Halt h) t = absurd t
-only (Fixed IncAr) t = absurd t
-only (Fixed IncIx) t = absurd t
-only (Fixed Movt) t = absurd t
-only (Fixed PushAr) t = absurd t
-only (Fixed PopAr) t = absurd t
-only (Fixed BrAr) t = absurd t
-only (Fixed CallAr) t = absurd t
-only (Fixed Ret) t = absurd t
-only (Fixed Retsk) t = refl
-only (Fixed Reti) t = absurd t
-only (Fixed Ei) t = absurd t
-only (Fixed Di) t = absurd t
-only (Fixed Nop) t = absurd t
+-- the one number below n at which a test passes
+only : (f : ℕ → Bool) (at n : ℕ) → T (every (λ (k : ℕ). eqb k at || not (f k)) n) → (k : ℕ) → k < n → T (f k) → k ≡ at
+only f at n t k h p =
+    eqb→eq k at (or-first (eqb k at) (f k) (every-at (λ (j : ℕ). eqb j at || not (f j)) n t k h) p)
+  where
+    or-first : (a b : Bool) → T (a || not b) → T b → T a
+    or-first true b s q = tt
+    or-first false b s q = absurd (T-not b s q)
 
--- what is refused with 4 returns nowhere
-run : (b : Bool) (i : Instruction) → T (isReturnSkip (decodedFlow (cond b (is i) (refused 4)))) → T (isReturnSkip (flowOf i))
-run true i t = t
-run false i t = absurd t
+opcode : (m x addr op : ℕ) → op < 32 → T (isReturnSkip (decodedFlow (entryOf op m x addr))) → op ≡ 7
+unfolding entryOf overview
+opcode m x addr op h t =
+    only (λ (k : ℕ). isReturnSkip (decodedFlow (entryOf k m x addr))) 7 32 tt op h t
 
--- the word of RETSK is no other's
-its : (w : ℕ) (i : Instruction) → w < 65536 → decodeOf w ≡ is i → i ≡ Fixed Retsk → w ≡ retsk
-unfolding encodeOf wordOf fits
-its w i h e r =
-    ap (λ (x : Encoding). x .word) (sym (its-word w i h e .word) ∙ ap encodeOf r)
+sub-word : (sub : ℕ) → sub < 2048 → T (isReturnSkip (decodedFlow (groupOf (sub / 16) (sub % 16)))) → sub ≡ 0b001_1110_0000
+unfolding columns
+sub-word sub h t =
+    only (λ (k : ℕ). isReturnSkip (decodedFlow (groupOf (k / 16) (k % 16)))) 0b001_1110_0000 2048 tt sub h t
 
-found : (w : ℕ) (d : Decoding) → w < 65536 → decodeOf w ≡ d → T (isReturnSkip (decodedFlow (runnable d))) → w ≡ retsk
-unfolding runnable
-found w (is i) h e t = its w i h e (only i (run (inBase i) i t))
-found w (refused n) h e t = absurd t
+found : (w : ℕ) → w < 65536 → T (isReturnSkip (wordFlow w)) → w ≡ retsk
+unfolding decodeOf entryOf overview
+found w h t =
+    let op : w / 2048 ≡ 7 = opcode _ _ _ (w / 2048) (omega arith) t in
+    let grouped : T (isReturnSkip (decodedFlow (groupOf (w / 16 % 128) (w % 16))))
+    = subst (λ (k : ℕ). T (isReturnSkip (decodedFlow (entryOf k (w / 16 % 128) (w % 16) (w % 2048))))) op t in
+    let sub : w % 2048 ≡ 0b001_1110_0000 = sub-word (w % 2048) (omega arith) (rw (← sub-m w, ← sub-x w) grouped) in
+    omega arith
 
 told : (w : ℕ) (b : Bool) → w < 65536 → isReturnSkip (wordFlow w) ≡ b → eqb w retsk ≡ b
-unfolding runnable decodeOf entryOf overview columns inBase
-told w true h e = eq-eqb w retsk (found w (decodeOf w) h refl (passed e))
+unfolding decodeOf entryOf overview columns
+told w true h e = eq-eqb w retsk (found w h (passed e))
 told w false h e = ne-eqb w retsk (λ x. subst T (ap (λ (k : ℕ). isReturnSkip (wordFlow k)) (sym x) ∙ e) tt)
 
 -- so a comparison tells

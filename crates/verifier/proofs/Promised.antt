@@ -6,11 +6,11 @@ use mathlib.Core.Logic.{_↔_}
 use Prim.Native.Nat.{ℕ}
 use Rattle.memory.specs.Chip.{upd17132}
 use Rattle.clearance.specs.Safe.{Safe}
-use Rattle.verifier.specs.Verdict.{Answer, pass, verifyOf, Clear}
+use Rattle.verifier.specs.Verdict.{CheckAnswer, pass, verifyOf, Clear}
 use Rattle.verifier.proofs.Exact.{exactly}
 use Rattle.clearance.proofs.Safety.{safe}
 
-module _ (rom sheet : List ℕ) (a : Answer) (q : a ≡ verifyOf upd17132 rom sheet) where
+module _ (rom sheet : List ℕ) (a : CheckAnswer) (q : a ≡ verifyOf upd17132 rom sheet) where
   clear : a ≡ pass → Clear upd17132 rom sheet
   clear e = exactly upd17132 rom sheet .0 (sym q ∙ e)
 

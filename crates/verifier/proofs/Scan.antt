@@ -14,7 +14,7 @@ use Rattle.laws.proofs.Booleans.{not-passed}
 use Rattle.laws.proofs.First.{Clear, First, first-is}
 use Rattle.memory.specs.Chip.{Chip, upd17132}
 use Rattle.machine.specs.Ranges.{romInRange}
-use Rattle.flow.specs.declared.Flow.{Flow}
+use Rattle.control.specs.declared.Flow.{Flow}
 use Rattle.sheet.specs.Entry.{Entry, entryAt, reached}
 use Rattle.clearance.specs.Rules.{flowAt, ruleOf, ruleHolds}
 use Rattle.verifier.specs.Verdict.{pass, fail, refused, wordHolds, lowestWord, lowestRule, ruled, verifyOf}

@@ -5,6 +5,7 @@ use mathlib.Core.Path.{_≡_}
 use mathlib.Core.Bool.{Bool, true, cond}
 use mathlib.Core.List.{List}
 use mathlib.Core.Logic.{_↔_}
+use mathlib.Mathlib.Logic.Function.Defs.{Injective}
 use Prim.Native.Nat.{ℕ, suc}
 use lib.Dec.{eqb, ltb}
 use lib.ListN.{length}
@@ -16,21 +17,27 @@ use Rattle.clearance.specs.Rules.{ruleHolds, EveryRule}
 use Rattle.verifier.specs.declared.Verdict.{Verdict}
 use Rattle.verifier.specs.declared.Verdict.the-variants.{Pass, Fail, RomLength, SheetLength}
 
-pub data Answer : Type 0 where
-  pass : Answer
+pub data CheckAnswer : Type 0 where
+  pass : CheckAnswer
   -- a word and a rule
-  fail : ℕ → ℕ → Answer
-  refused : ℕ → Answer
+  fail : ℕ → ℕ → CheckAnswer
+  refused : ℕ → CheckAnswer
 
-abbrev pub answerOf : Verdict → Answer
+abbrev pub answerOf : Verdict → CheckAnswer
 answerOf Pass = pass
 answerOf (Fail word rule) = fail word rule
 answerOf RomLength = refused 1
 answerOf SheetLength = refused 9
 
 -- what stands for each verdict loses nothing
-abbrev pub Faithful : Type 0
-Faithful = (a b : Verdict) → answerOf a ≡ answerOf b → a ≡ b
+abbrev pub VerdictsApart : Type 0
+VerdictsApart = Injective answerOf
+
+-- a sheet that passes is 0, and one that fails 254, which no refusal is
+abbrev pub verdictNumber : CheckAnswer → ℕ
+verdictNumber pass = 0
+verdictNumber (fail word rule) = 254
+verdictNumber (refused n) = n
 
 module _ (chip : Chip) (rom sheet : List ℕ) where
   -- every rule holds at a word
@@ -43,11 +50,11 @@ module _ (chip : Chip) (rom sheet : List ℕ) where
   abbrev pub lowestWord : ℕ
   lowestWord = firstFalse wordHolds (length rom)
 
-  unfoldable pub ruled : Answer
+  unfoldable pub ruled : CheckAnswer
   ruled = cond (ltb lowestWord (length rom)) (fail lowestWord (lowestRule lowestWord)) pass
 
   -- refusal 1, for the ROM's length alone; then 9, sheet length differs from the ROM's; then the rules
-  unfoldable pub verifyOf : Answer
+  unfoldable pub verifyOf : CheckAnswer
   verifyOf = cond (romInRange chip rom) (cond (eqb (length sheet) (length rom)) ruled (refused 9)) (refused 1)
 
   -- no refusal, and every rule holds at every word

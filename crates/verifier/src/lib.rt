@@ -3,6 +3,8 @@ mod reading;
 mod rules;
 mod verification;
 
+ghost use mathlib.Core.Path.{_≡_};
+ghost use Rattle.verifier.specs.Verdict.{answerOf, verdictNumber};
 pub use verification::verify;
 
 // The levels of the chip's address stack.
@@ -17,4 +19,18 @@ pub enum Verdict {
     RomLength,
     // The sheet's length differs from the ROM's: refusal 9.
     SheetLength,
+}
+
+impl Verdict {
+    // 0 for a pass and 254 for a fail, which no refusal is.
+    pub fn number(self) -> u8
+        ensures { λ r. ⌜ r ≡ verdictNumber (answerOf self) ⌝ }
+    {
+        match self {
+            Verdict::Pass => 0,
+            Verdict::Fail { word: _, rule: _ } => 254,
+            Verdict::RomLength => 1,
+            Verdict::SheetLength => 9,
+        }
+    }
 }

@@ -3,24 +3,24 @@ ghost use mathlib.Core.Path.{_≡_};
 ghost use Prim.Native.Nat.{_≤_};
 ghost use lib.ListN.{length};
 ghost use Rattle.memory.specs.Chip.{upd17132};
-ghost use Rattle.flow.specs.Flow.{wordFlow};
+ghost use Rattle.control.specs.Flow.{wordFlow};
 ghost use Rattle.clearance.specs.Rules.{isReturnSkip, flowAt, met};
 ghost use Rattle.verifier.specs.ReturnDepths.{ReturnDepths};
 use crate::LEVELS;
-use flow::Flow;
+use control::Flow;
 use sheet::covers;
 use sheet::entry_at;
 use sheet::with_depths;
 
-// The flow of a word.
+// The flow of a word; past the ROM there is no instruction.
 pub fn flow_at(rom: &[u16], word: u16) -> Flow
     ensures { λ r. ⌜ r ≡ flowAt (now (rom .entry)) word ⌝ }
 {
     let at = word as usize;
     if rom.len() <= at {
-        return flow::of_word(0);
+        return Flow::Refused(3);
     }
-    flow::of_word(rom[at])
+    control::of_word(rom[at])
 }
 
 // Whether a word that a rule names lies in the ROM and its entry covers what is asked.
@@ -48,7 +48,7 @@ fn return_skip_at(rom: &[u16], word: u16) -> bool
 {
     let at = word as usize;
     if rom.len() <= at {
-        return is_return_skip(0);
+        return false;
     }
     is_return_skip(rom[at])
 }

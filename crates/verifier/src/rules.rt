@@ -2,13 +2,14 @@
 ghost use mathlib.Core.Path.{_≡_};
 ghost use mathlib.Core.List.{[], _∷_};
 ghost use Prim.Native.Nat.{_≤_};
-ghost use Rattle.laws.specs.Wrap.{wrapNext};
 ghost use Rattle.memory.specs.Chip.{upd17132};
+ghost use Rattle.control.specs.Control.{nextOf};
 ghost use Rattle.clearance.specs.Rules.{allMet, rule1, rule2, rule3, rule4, rule5, rule6, ruleOf};
 ghost use Rattle.verifier.specs.ReturnDepths.{ReturnDepths};
 use crate::LEVELS;
 use crate::reading::met;
-use flow::Flow;
+use control::Flow;
+use control::next;
 use sheet::at_least;
 use sheet::at_most;
 use sheet::holds;
@@ -51,41 +52,41 @@ fn rule_3(rom: &[u16], flow: Flow, entry: u8) -> bool
     match flow {
         Flow::Onward => true,
         Flow::Skips => true,
-        Flow::Branches(to) => true,
-        Flow::Calls(to) => true,
-        Flow::Returns => true,
-        Flow::ReturnsSkip => true,
+        Flow::Branches(_) => true,
+        Flow::Calls(_) => true,
+        Flow::Returns(_) => true,
         Flow::ReadsTable => table_allowed(rom, entry),
         Flow::StandsBy => true,
-        Flow::Barred => false,
+        Flow::ByAr(_) => false,
+        Flow::Refused(_) => false,
     }
 }
 
 // The two words that a skip may go to.
-fn skip_met(rom: &[u16], sheet: &[u8], next: u16, entry: u8) -> bool
-    ensures { λ r. ⌜ r ≡ allMet upd17132 (now (rom .entry)) (now (sheet .entry)) (record { word = next; entry = entry } ∷ record { word = wrapNext 10 next; entry = entry } ∷ []) ⌝ }
+fn skip_met(rom: &[u16], sheet: &[u8], after: u16, entry: u8) -> bool
+    ensures { λ r. ⌜ r ≡ allMet upd17132 (now (rom .entry)) (now (sheet .entry)) (record { word = after; entry = entry } ∷ record { word = nextOf upd17132 after; entry = entry } ∷ []) ⌝ }
 {
-    if !met(rom, sheet, next, entry) {
+    if !met(rom, sheet, after, entry) {
         return false;
     }
-    met(rom, sheet, memory::next(next), entry)
+    met(rom, sheet, next(after), entry)
 }
 
 // Rule 4.
 fn rule_4(rom: &[u16], sheet: &[u8], word: u16, flow: Flow, entry: u8) -> bool
     ensures { λ r. ⌜ r ≡ rule4 upd17132 (now (rom .entry)) (now (sheet .entry)) word flow entry ⌝ }
 {
-    let next = memory::next(word);
+    let after = next(word);
     match flow {
-        Flow::Onward => met(rom, sheet, next, entry),
-        Flow::Skips => skip_met(rom, sheet, next, entry),
+        Flow::Onward => met(rom, sheet, after, entry),
+        Flow::Skips => skip_met(rom, sheet, after, entry),
         Flow::Branches(to) => met(rom, sheet, to, entry),
-        Flow::Calls(to) => met(rom, sheet, next, entry),
-        Flow::Returns => true,
-        Flow::ReturnsSkip => true,
-        Flow::ReadsTable => met(rom, sheet, next, entry),
-        Flow::StandsBy => met(rom, sheet, next, entry),
-        Flow::Barred => true,
+        Flow::Calls(_) => met(rom, sheet, after, entry),
+        Flow::Returns(_) => true,
+        Flow::ReadsTable => met(rom, sheet, after, entry),
+        Flow::StandsBy => met(rom, sheet, after, entry),
+        Flow::ByAr(_) => true,
+        Flow::Refused(_) => true,
     }
 }
 
@@ -104,9 +105,8 @@ fn call_allowed(rom: &[u16], sheet: &[u8], depths: [bool; 6], word: u16, to: u16
     if !shares_any(depths, higher) {
         return true;
     }
-    let next = memory::next(word);
-    let after = memory::next(next);
-    met(rom, sheet, after, entry)
+    let after = next(word);
+    met(rom, sheet, next(after), entry)
 }
 
 // Rule 5.
@@ -114,34 +114,20 @@ fn rule_5(rom: &[u16], sheet: &[u8], depths: [bool; 6], word: u16, flow: Flow, e
     requires { ⌜ ReturnDepths upd17132 (now rom) (now sheet) depths ⌝ }
     ensures { λ r. ⌜ r ≡ rule5 upd17132 (now (rom .entry)) (now (sheet .entry)) word flow entry ⌝ }
 {
-    match flow {
-        Flow::Onward => true,
-        Flow::Skips => true,
-        Flow::Branches(to) => true,
-        Flow::Calls(to) => call_allowed(rom, sheet, depths, word, to, entry),
-        Flow::Returns => true,
-        Flow::ReturnsSkip => true,
-        Flow::ReadsTable => true,
-        Flow::StandsBy => true,
-        Flow::Barred => true,
-    }
+    let Flow::Calls(to) = flow else {
+        return true;
+    };
+    call_allowed(rom, sheet, depths, word, to, entry)
 }
 
 // Rule 6.
 fn rule_6(flow: Flow, entry: u8) -> bool
     ensures { λ r. ⌜ r ≡ rule6 flow entry ⌝ }
 {
-    match flow {
-        Flow::Onward => true,
-        Flow::Skips => true,
-        Flow::Branches(to) => true,
-        Flow::Calls(to) => true,
-        Flow::Returns => at_least(1, entry),
-        Flow::ReturnsSkip => at_least(1, entry),
-        Flow::ReadsTable => true,
-        Flow::StandsBy => true,
-        Flow::Barred => true,
-    }
+    let Flow::Returns(_) = flow else {
+        return true;
+    };
+    at_least(1, entry)
 }
 
 // Whether a rule holds, by its number; rules 3 to 6 are those of reached words.

@@ -8,12 +8,6 @@ enum-told c = search needs
 enum-told-2 : tie.Need-enum-told-2
 enum-told-2 c = search needs
 
-enum-known-flow : tie.Need-enum-known-flow
-enum-known-flow c = search needs
-
-enum-known-flow-2 : tie.Need-enum-known-flow-2
-enum-known-flow-2 c = search needs
-
 enum-told-3 : tie.Need-enum-told-3
 enum-told-3 c = search needs
 
@@ -23,14 +17,20 @@ enum-told-4 c = search needs
 enum-told-5 : tie.Need-enum-told-5
 enum-told-5 c = search needs
 
-table-allowed-requires : tie.Need-table-allowed-requires
-table-allowed-requires c κs = search needs
-
 enum-told-6 : tie.Need-enum-told-6
 enum-told-6 c = search needs
 
+table-allowed-requires : tie.Need-table-allowed-requires
+table-allowed-requires c κs = search needs
+
 enum-told-7 : tie.Need-enum-told-7
 enum-told-7 c = search needs
+
+enum-told-8 : tie.Need-enum-told-8
+enum-told-8 c = search needs
+
+enum-told-9 : tie.Need-enum-told-9
+enum-told-9 c = search needs
 
 returns : tie.Need-returns
 returns c = search needs
@@ -48,10 +48,10 @@ returns-5 : tie.Need-returns-5
 returns-5 c = search needs
 
 returns-6 : tie.Need-returns-6
-returns-6 c = search needs
+returns-6 c = rw (c .before .enum-told6 .given .1) (c .table-allowed .ensures)
 
 returns-7 : tie.Need-returns-7
-returns-7 c = rw (c .before .enum-told5 .given .1) (c .table-allowed .ensures)
+returns-7 c = search needs
 
 returns-8 : tie.Need-returns-8
 returns-8 c = search needs
@@ -65,14 +65,14 @@ rule-3-spec =
     (tie.spec
     enum-told
     enum-told-2
-    enum-known-flow
-    enum-known-flow-2
     enum-told-3
     enum-told-4
     enum-told-5
-    table-allowed-requires
     enum-told-6
+    table-allowed-requires
     enum-told-7
+    enum-told-8
+    enum-told-9
     returns
     returns-2
     returns-3

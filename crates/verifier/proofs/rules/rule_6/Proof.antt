@@ -1,88 +1,19 @@
 use borrow.Author.Needs.{needs}
+use Rattle.verifier.proofs.OtherFlows.{no-return}
 use Rattle.verifier.proofs.rules.rule_6.Statement.{statement}
 use Rattle.verifier.proofs.rules.rule_6.Tie as tie
 
 enum-told : tie.Need-enum-told
 enum-told c = search needs
 
-enum-told-2 : tie.Need-enum-told-2
-enum-told-2 c = search needs
-
-enum-known-flow : tie.Need-enum-known-flow
-enum-known-flow c = search needs
-
-enum-known-flow-2 : tie.Need-enum-known-flow-2
-enum-known-flow-2 c = search needs
-
-enum-told-3 : tie.Need-enum-told-3
-enum-told-3 c = search needs
+returns : tie.Need-returns
+returns c = no-return (c .before .args .entry) (c .before .args .flow) (c .match .keys2)
 
 at-least-requires : tie.Need-at-least-requires
 at-least-requires c κs = search needs
 
-enum-told-4 : tie.Need-enum-told-4
-enum-told-4 c = search needs
-
-at-least-requires-2 : tie.Need-at-least-requires-2
-at-least-requires-2 c κs = search needs
-
-enum-told-5 : tie.Need-enum-told-5
-enum-told-5 c = search needs
-
-enum-told-6 : tie.Need-enum-told-6
-enum-told-6 c = search needs
-
-enum-told-7 : tie.Need-enum-told-7
-enum-told-7 c = search needs
-
-returns : tie.Need-returns
-returns c = search needs
-
 returns-2 : tie.Need-returns-2
-returns-2 c = search needs
-
-returns-3 : tie.Need-returns-3
-returns-3 c = search needs
-
-returns-4 : tie.Need-returns-4
-returns-4 c = search needs
-
-returns-5 : tie.Need-returns-5
-returns-5 c = rw (c .before .enum-told3 .given .1) (c .at-least .ensures)
-
-returns-6 : tie.Need-returns-6
-returns-6 c = rw (c .before .enum-told4 .given .1) (c .at-least2 .ensures)
-
-returns-7 : tie.Need-returns-7
-returns-7 c = search needs
-
-returns-8 : tie.Need-returns-8
-returns-8 c = search needs
-
-returns-9 : tie.Need-returns-9
-returns-9 c = search needs
+returns-2 c = rw (c .before .enum-told .given .1) (c .at-least .ensures)
 
 pub rule-6-spec : {M : Type 1} → statement M
-rule-6-spec =
-    tie.close
-    (tie.spec
-    enum-told
-    enum-told-2
-    enum-known-flow
-    enum-known-flow-2
-    enum-told-3
-    at-least-requires
-    enum-told-4
-    at-least-requires-2
-    enum-told-5
-    enum-told-6
-    enum-told-7
-    returns
-    returns-2
-    returns-3
-    returns-4
-    returns-5
-    returns-6
-    returns-7
-    returns-8
-    returns-9)
+rule-6-spec = tie.close (tie.spec enum-told returns at-least-requires returns-2)
