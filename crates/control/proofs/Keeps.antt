@@ -1,10 +1,10 @@
 -- A refused change of control leaves the control as it came.
 -- Assumes nothing.
-use mathlib.Core.Path.{_≡_, refl}
-use mathlib.Core.Bool.{Bool, true, false, cond}
+use mathlib.Core.Path.{_≡_, refl, sym}
+use mathlib.Core.Bool.{Bool, false, false≢true}
 use Prim.Native.Nat.{ℕ, _^_}
-use native.Mathlib.Omega.{arith}
 use lib.Dec.{eqb, leb}
+use Rattle.laws.proofs.Booleans.{either}
 use Rattle.memory.specs.Chip.{Chip}
 use Rattle.control.specs.Control.{Transfer, goes, refusedControl, jumpTo, withSkip, pushed, popped, topOf, nextOf, onwards, unlessFull, unlessEmpty, inReach, byArOf, controlOf, branchOf, callOf, returnOf, pushOf, popOf, tableOf, standbyOf, onwardOf}
 use Rattle.control.specs.declared.ArOp.{ArOp}
@@ -17,24 +17,20 @@ abbrev pub Keeps : Control → Transfer → Type 0
 Keeps c s = eqb (s .refusal) 0 ≡ false → s .control ≡ c
 
 gone : (c after : Control) → Keeps c (goes after)
-gone c after e = absurd (let z : _≡_ {A = ℕ} 0 1 = cc in omega arith)
+gone c after e = absurd (false≢true (sym e))
 
 kept : (n : ℕ) (c : Control) → Keeps c (refusedControl n c)
 kept n c e = refl
 
-either : (b : Bool) (c : Control) (s t : Transfer) → Keeps c s → Keeps c t → Keeps c (cond b s t)
-either true c s t k l = k
-either false c s t k l = l
-
 module _ (chip : Chip) (c : Control) where
   full : (after : Control) → Keeps c (unlessFull chip c after)
-  full after = either (leb (chip .levels) (c .levels)) c (refusedControl 6 c) (goes after) (kept 6 c) (gone c after)
+  full after = either (Keeps c) (leb (chip .levels) (c .levels)) (refusedControl 6 c) (goes after) (kept 6 c) (gone c after)
 
   empty : (after : Control) → Keeps c (unlessEmpty chip c after)
-  empty after = either (eqb (c .levels) 0) c (refusedControl 7 c) (goes after) (kept 7 c) (gone c after)
+  empty after = either (Keeps c) (eqb (c .levels) 0) (refusedControl 7 c) (goes after) (kept 7 c) (gone c after)
 
   reached : (to : ℕ) (s : Transfer) → Keeps c s → Keeps c (inReach chip to c s)
-  reached to s k = either (leb (2 ^ chip .pcBits) to) c (refusedControl 5 c) s (kept 5 c) k
+  reached to s k = either (Keeps c) (leb (2 ^ chip .pcBits) to) (refusedControl 5 c) s (kept 5 c) k
 
   by-ar : (op : ArOp) (ar : ℕ) → Keeps c (byArOf chip op ar c)
   unfolding callOf pushOf popOf

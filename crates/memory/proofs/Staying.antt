@@ -1,20 +1,17 @@
 -- Which bits stay: all of a nibble, but at seven cells.
 -- Assumes nothing.
-use mathlib.Core.Path.{_≡_, _∙_, subst}
-use mathlib.Core.Bool.{Bool, false, _||_}
+use mathlib.Core.Path.{_≡_, _∙_}
+use mathlib.Core.Bool.{Bool, _||_}
 use Prim.Native.Nat.{ℕ, _%_, _<_}
 use native.Mathlib.Omega.{arith}
 use borrow.Author.Tests.{ne-eqb, ltb-true}
 use lib.Bits.{and-mask, and-le-r}
-use lib.Dec.{T, eqb, eqb→eq, ltb}
+use lib.Dec.{eqb, eqb→eq, ltb}
 use lib.ListN.{getD}
 use Rattle.laws.proofs.Every.{every-at, holds}
 use Rattle.memory.specs.Chip.{upd17132, masks17132}
 use Rattle.memory.specs.Names.{P0E, AR3, AR2, BANK, IXH, IXM, RPH}
 use Rattle.memory.specs.Write.{keptOf}
-
-or-right : (a b : Bool) → a ≡ false → T (a || b) → T b
-or-right a b e t = subst (λ (x : Bool). T (x || b)) e t
 
 -- one of the seven, or all of a nibble stays
 listed : ℕ → Bool
@@ -24,9 +21,9 @@ pub whole : (k : ℕ) → k < 128 → (k ≡ AR3 → ⊥) → (k ≡ BANK → �
     → (k ≡ IXM → ⊥) → (k ≡ P0E → ⊥) → getD masks17132 k 0 ≡ 0b1111
 unfolding listed masks17132
 whole k h ar3 bank rph ar2 ixh ixm p0e =
-    eqb→eq _ _ (or-right _ _ (ne-eqb k P0E p0e) (or-right _ _ (ne-eqb k IXM ixm) (or-right _ _ (ne-eqb k IXH ixh)
-    (or-right _ _ (ne-eqb k AR2 ar2) (or-right _ _ (ne-eqb k RPH rph) (or-right _ _ (ne-eqb k BANK bank)
-    (or-right _ _ (ne-eqb k AR3 ar3) (every-at listed 128 tt k h))))))))
+    eqb→eq _ _
+    (rw (ne-eqb k AR3 ar3, ne-eqb k BANK bank, ne-eqb k RPH rph, ne-eqb k AR2 ar2, ne-eqb k IXH ixh, ne-eqb k IXM ixm, ne-eqb k P0E p0e) at
+    (every-at listed 128 tt k h))
 
 narrow : ℕ → Bool
 narrow k = ltb (getD masks17132 k 0) 16

@@ -1,14 +1,14 @@
 -- The laws of the cell write, over the address and the chip.
 -- Assumes nothing.
 use mathlib.Core.Path.{_≡_, _∙_, refl}
-use mathlib.Core.Bool.{Bool, true, false, _||_}
+use mathlib.Core.Bool.{Bool, true, false}
 use mathlib.Core.List.{List, [], _∷_}
 use Prim.Native.Nat.{ℕ, _<_, _≤_}
-use native.Mathlib.Omega.{arith}
 use borrow.Author.Tests.{eqb-true, eqb-false, ltb-true, ltb-false, eq-eqb}
 use lib.Dec.{T, eqb, ltb}
 use lib.ListN.{getD, length, length-set}
 use lib.Seq.{getD-set-same, getD-set-other, set-out}
+use Rattle.laws.proofs.Booleans.{or-neither}
 use Rattle.laws.proofs.Every.{every-at, every-of, passed, holds}
 use Rattle.memory.specs.Chip.{Chip}
 use Rattle.memory.specs.Range.{cellInRange, cellsInRange}
@@ -58,10 +58,6 @@ module _ (chip : Chip) where
   unfolding writesApplied
   ranged [] cells r = r
   ranged (w ∷ ws) cells r = ranged ws (writeOf chip cells (w .at) (w .value)) (ranged-once cells (w .at) (w .value) r)
-
-  or-neither : (a b : Bool) → (a || b) ≡ false → (a ≡ false) × (b ≡ false)
-  or-neither true b e = absurd (let z : _≡_ {A = ℕ} 0 1 = cc in omega arith)
-  or-neither false b e = (refl, e)
 
   pub untouched : (ws : List Write) (cells : List ℕ) (k : ℕ) → touches ws k ≡ false
       → getD (writesApplied chip cells ws) k 0 ≡ getD cells k 0

@@ -17,7 +17,7 @@ unfoldable pub arOf : List ℕ → ℕ
 arOf cells = number (nibbleAt cells AR3) (nibbleAt cells AR2) (nibbleAt cells AR1) (nibbleAt cells AR0)
 
 -- the data buffer
-unfoldable pub bufferOf : List ℕ → ℕ
+abbrev pub bufferOf : List ℕ → ℕ
 bufferOf cells = number (nibbleAt cells DBF3) (nibbleAt cells DBF2) (nibbleAt cells DBF1) (nibbleAt cells DBF0)
 
 -- the writes that put a number of 16 bits into four cells, the highest nibble first

@@ -1,6 +1,5 @@
 // The skips, RORC, and LD, ST and MOV.
 ghost use mathlib.Core.Path.{_≡_};
-ghost use mathlib.Core.Bool.{Bool};
 ghost use Rattle.alu.specs.Results.{conditionOf, rotateOf};
 ghost use Rattle.memory.specs.Chip.{upd17132};
 ghost use Rattle.memory.specs.Names.{CY};
