@@ -152,6 +152,9 @@ module _ (chip : Chip) (rom sheet : List ℕ) where
           let n : k ≡ d → ⊥ = eqb-false k d q in
           rw (getD-set-other (c .stack) d k (N pc) 0 n) (p .stacked k (omega arith))
 
+      opens : counted (Calls to) t .returns + (d + 1) ≡ counted (Calls to) t .calls
+      opens = omega (arith, p .opened)
+
       calls : Kept (inReach chip to c (callOf chip to c)) (counted (Calls to) t)
       unfolding callOf
       calls =
@@ -162,7 +165,7 @@ module _ (chip : Chip) (rom sheet : List ℕ) where
             path = record {
               places = length-set (c .stack) d (N pc) ∙ p .places;
               here = subst (At to) (sym (add-one d)) target;
-              opened = omega (arith, p .opened);
+              opened = opens;
               skipping = unmarked;
               stacked = λ k h. pushed k (eqb k d) refl h i;
             };
@@ -176,6 +179,9 @@ module _ (chip : Chip) (rom sheet : List ℕ) where
       popped : (k : ℕ) → k < d - 1 → Back (getD (set (c .stack) (d - 1) 0) k 0) k
       popped k h = rw (getD-set-other (c .stack) (d - 1) k 0 0 (λ (x : k ≡ d - 1). omega arith)) (p .stacked k (omega arith))
 
+      closes : counted (Returns skip) t .returns + (d - 1) ≡ counted (Returns skip) t .calls
+      closes = omega (arith, p .opened, some-open)
+
       returns : Kept (returnOf chip skip c) (counted (Returns skip) t)
       unfolding returnOf
       returns =
@@ -187,7 +193,7 @@ module _ (chip : Chip) (rom sheet : List ℕ) where
             path = record {
               places = length-set (c .stack) (d - 1) 0 ∙ p .places;
               here = back .plain;
-              opened = omega (arith, p .opened);
+              opened = closes;
               skipping = λ q. back .skipped pc (subst (At pc) up (p .here)) (ap isReturnSkip f ∙ sym (marked-bit skip) ∙ q);
               stacked = popped;
             };

@@ -3,12 +3,12 @@
 use mathlib.Core.Path.{_≡_, _∙_, ap, refl, sym, subst}
 use mathlib.Core.Bool.{Bool, true, false, _&&_, cond, and-true, false≢true}
 use mathlib.Core.List.{List, [], _∷_}
-use mathlib.Core.Logic.{_⊎_, inl, inr}
+use mathlib.Core.Logic.{inl, inr}
 use Prim.Native.Nat.{ℕ, zero, suc, _+_, _<_, _≤_}
 use native.Mathlib.Nat.{not-suc-le-zero}
 use native.Mathlib.Omega.{arith}
 use borrow.Author.Tests.{ltb-true, leb-true, le-leb}
-use lib.Dec.{leb, lit≤, lit<}
+use lib.Dec.{lit≤, lit<}
 use lib.ListN.{length}
 use Rattle.laws.proofs.Booleans.{both}
 use Rattle.memory.specs.Chip.{Chip, upd17132, masks17132}
@@ -18,13 +18,13 @@ use Rattle.machine.specs.Parts.{isMarked, resetMachine}
 use Rattle.machine.specs.Ranges.{controlInRange, marksInRange, machineInRange, inputInRange, romInRange, allInRange, budgetInRange}
 use Rattle.machine.specs.declared.Input.{Input}
 use Rattle.machine.specs.declared.Machine.{Machine}
-use Rattle.cpu.specs.Reply.{refusalOf, costOf, Step, refusedStep}
+use Rattle.cpu.specs.Reply.{costOf, Step, refusedStep}
 use Rattle.cpu.specs.Run.{Run, ended, runFrom, runOf}
 use Rattle.cpu.specs.Step.{stepOf}
 use Rattle.cpu.proofs.ArFits.{ar-fits}
 use Rattle.cpu.proofs.Ranged.{steps}
 use Rattle.cpu.proofs.Turns.{all-of, step-refused}
-use Rattle.clearance.specs.Calls.{HostCall, step, run, CallForm, Tally, noCalls, afterReply, runTally, leftBy, tallyAfter}
+use Rattle.clearance.specs.Calls.{HostCall, step, run, CallForm, ownInRange, Tally, noCalls, afterReply, runTally, refusalAt, leftBy, tallyAfter}
 use Rattle.clearance.specs.Rules.{EveryRule, flowAt, rule1, ruleOf}
 use Rattle.clearance.specs.Safe.{Moment, Allowed, Within, During, Good, Safe}
 use Rattle.clearance.proofs.Paths.{OnPath}
@@ -160,14 +160,22 @@ module _ (chip : Chip) (rom sheet : List ℕ) (g : Cleared chip rom sheet) where
     pub during : During chip rom sheet k m t
     pub after : Inv (leftBy chip rom k m) (tallyAfter chip rom k m t)
 
+  answered-call : (k : HostCall) (m : Machine) → refusalAt chip rom k m ≡ 0 → Allowed chip rom sheet k m
+  answered-call k m a = record { answered = λ _. a; onlyOne = inl a }
+
+  refused-call : (k : HostCall) (m : Machine) → ownInRange k ≡ false → refusalAt chip rom k m ≡ 1 → Allowed chip rom sheet k m
+  refused-call k m h a = record { answered = λ q. absurd (false≢true (sym h ∙ q)); onlyOne = inr a }
+
   by-step : (form : CallForm) (i : Input) (m : Machine) (t : Tally) → Inv m t → (b : Bool) → inputInRange i ≡ b → Called (step form i) m t
-  by-step form i m t v true h =
-      let a = fair i h m t v .answered in
-      record { allowed = record { answered = λ _. a; onlyOne = inl a }; during = tt; after = kept-by-step i h (record { machine = m; tally = t }) v }
+  by-step form i m t v true h = record {
+    allowed = answered-call (step form i) m (fair i h m t v .answered);
+    during = tt;
+    after = kept-by-step i h (record { machine = m; tally = t }) v;
+  }
   by-step form i m t v false h =
       let d : refusedStep 1 m ≡ stepOf chip rom i m = step-refused chip rom i m (own i m (v .ranged) ∙ h) in
       record {
-        allowed = record { answered = λ q. absurd (false≢true (sym h ∙ q)); onlyOne = inr (rw (← d)) };
+        allowed = refused-call (step form i) m h (rw (← d));
         during = tt;
         after = subst (λ (s : Step). Inv (s .machine) (afterReply (s .reply) (isMarked (m .control .skip)) (flowAt rom (m .control .pc)) t)) d v;
       }
@@ -177,16 +185,15 @@ module _ (chip : Chip) (rom sheet : List ℕ) (g : Cleared chip rom sheet) where
   unfolding Within runTally
   by-run form i budget m t v true h =
       let p = both (inputInRange i) (budgetInRange budget) h in
-      let a = unrefused i (p .0) budget (p .1) m t v in
       record {
-        allowed = record { answered = λ _. a; onlyOne = inl a };
+        allowed = answered-call (run form i budget) m (unrefused i (p .0) budget (p .1) m t v);
         during = within i (p .0) budget (p .1) m t v;
         after = ran i (p .0) budget (p .1) m t v;
       }
   by-run form i budget m t v false h =
       let d = run-is i budget m (v .ranged) false h in
       record {
-        allowed = record { answered = λ q. absurd (false≢true (sym h ∙ q)); onlyOne = inr (ap (λ (r : Run). r .refusal) d) };
+        allowed = refused-call (run form i budget) m h (ap (λ (r : Run). r .refusal) d);
         during = λ k some.
             let none : k ≡ 0 = (let z : k ≤ 0 = subst (λ (r : Run). k ≤ r .steps) d some in omega arith) in
             moment _ _ (rw (none, no-steps i m (v .ranged) (inputInRange i && budgetInRange 0) refl) v);

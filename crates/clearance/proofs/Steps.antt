@@ -1,6 +1,6 @@
 -- A step on a cleared ROM: it is not refused, and control stays on its path.
 -- Assumes nothing.
-use mathlib.Core.Path.{_≡_, _∙_, ap, refl, sym, subst}
+use mathlib.Core.Path.{_≡_, _∙_, ap, refl, subst}
 use mathlib.Core.Bool.{Bool, true, false, _&&_, false≢true}
 use mathlib.Core.List.{List}
 use Prim.Native.Nat.{ℕ}
@@ -23,7 +23,7 @@ use Rattle.control.specs.declared.Flow.{Flow}
 use Rattle.operations.specs.Writes.{holdsOf}
 use Rattle.cpu.specs.Execute.{dataOf, writtenOf, transferBy, executeOf}
 use Rattle.cpu.specs.Reply.{refusalOf, Step, completedStep}
-use Rattle.cpu.specs.Step.{isStanding, woken, passOver, advanceOf, stepOf}
+use Rattle.cpu.specs.Step.{isStanding, woken, advanceOf, stepOf}
 use Rattle.cpu.proofs.Phases.{stays, passed-over, executed}
 use Rattle.cpu.proofs.RangeParts.{machine-parts}
 use Rattle.cpu.proofs.Turns.{step-advances}

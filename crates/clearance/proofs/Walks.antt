@@ -80,6 +80,7 @@ module _ (chip : Chip) (rom : List ℕ) (i : Input) where
   spent s inStandby e = rw e
   spent s (refused n) e = rw e
 
+  -- a run of no more steps than another completes is so many steps
   pub reaches : (left k n : ℕ) (s : Stage) (b : Bool) → onFrom (s .machine) ≡ b → n + k ≤ (runFrom chip rom i left n (s .machine)) .steps
       → (runFrom chip rom i k n (s .machine)) .machine ≡ (walk k s) .machine
   reaches left zero n s b e h = ap (λ (r : Run). r .machine) (nothing-left n (s .machine))

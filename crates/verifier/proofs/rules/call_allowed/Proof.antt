@@ -2,7 +2,7 @@ use mathlib.Core.Path.{_≡_, _∙_, sym}
 use mathlib.Core.Bool.{true, and-true}
 use lib.Dec.{lit<}
 use borrow.Author.Tests.{not-true, not-false}
-use Rattle.sheet.specs.Entry.{atMost, raised, reached}
+use Rattle.sheet.specs.Entry.{raised, reached}
 use Rattle.sheet.proofs.Entries.{raised-byte, raised-reached}
 use Rattle.verifier.specs.ReturnDepths.{ReturnDepths}
 use borrow.Author.Needs.{needs}

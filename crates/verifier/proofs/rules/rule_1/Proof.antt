@@ -1,4 +1,3 @@
-use mathlib.Core.Path.{_∙_}
 use borrow.Author.Tests.{eq-eqb, ne-eqb}
 use Rattle.clearance.specs.Rules.{rule1}
 use borrow.Author.Needs.{needs}
