@@ -20,13 +20,13 @@ machineOf byte word =
     record {
       memory = record { cells = set (set (replicate 128 (byte - 1)) 0 (byte - 2)) 127 (byte - 3) };
       control =
-        record {
-          pc = word - 4;
-          stack = (word - 5) ∷ (word - 6) ∷ (word - 7) ∷ (word - 8) ∷ (word - 9) ∷ [];
-          levels = byte - 10;
-          skip = byte - 11;
-          standby = byte - 12;
-        };
+          record {
+            pc = word - 4;
+            stack = (word - 5) ∷ (word - 6) ∷ (word - 7) ∷ (word - 8) ∷ (word - 9) ∷ [];
+            levels = byte - 10;
+            skip = byte - 11;
+            standby = byte - 12;
+          };
     }
 
 abbrev pub inputOf : ℕ → Input
@@ -60,10 +60,10 @@ laidOf =
     record {
       machines = machineOf 255 65535 ∷ machineOf 127 32767 ∷ [];
       inputs = inputOf 255 ∷ inputOf 127 ∷ [];
-      run_replies = runReplyOf 255 4294967295 ∷ runReplyOf 127 2147483647 ∷ [];
-      verdict_replies = verdictReplyOf 255 65535 ∷ verdictReplyOf 127 32767 ∷ [];
-      read_replies = readReplyOf 255 18446744073709551615 ∷ readReplyOf 127 9223372036854775807 ∷ [];
-      output_replies = outputReplyOf 255 18446744073709551615 ∷ outputReplyOf 127 9223372036854775807 ∷ [];
-      decoded_rows = decodedRowOf 255 65535 ∷ decodedRowOf 127 32767 ∷ [];
-      encoded_rows = encodedRowOf 255 65535 ∷ encodedRowOf 127 32767 ∷ [];
+      run-replies = runReplyOf 255 4294967295 ∷ runReplyOf 127 2147483647 ∷ [];
+      verdict-replies = verdictReplyOf 255 65535 ∷ verdictReplyOf 127 32767 ∷ [];
+      read-replies = readReplyOf 255 18446744073709551615 ∷ readReplyOf 127 9223372036854775807 ∷ [];
+      output-replies = outputReplyOf 255 18446744073709551615 ∷ outputReplyOf 127 9223372036854775807 ∷ [];
+      decoded-rows = decodedRowOf 255 65535 ∷ decodedRowOf 127 32767 ∷ [];
+      encoded-rows = encodedRowOf 255 65535 ∷ encodedRowOf 127 32767 ∷ [];
     }

@@ -138,7 +138,10 @@ fn all() -> Laid
         run_reply_with(255, 4294967295),
         run_reply_with(127, 2147483647),
     ];
-    let verdict_replies = [verdict_reply_with(255, 65535), verdict_reply_with(127, 32767)];
+    let verdict_replies = [
+        verdict_reply_with(255, 65535),
+        verdict_reply_with(127, 32767),
+    ];
     let read_replies = [read_reply_with(255, size), read_reply_with(127, half)];
     let output_replies = [output_reply_with(255, size), output_reply_with(127, half)];
     let decoded_rows = [decoded_row_with(255, 65535), decoded_row_with(127, 32767)];

@@ -10,7 +10,7 @@ use lib.Dec.{eqb, lit≤}
 use Rattle.machine.specs.Refusals.{numberOf}
 use Rattle.machine.specs.declared.Refusal.{Refusal}
 use Rattle.machine.specs.declared.Refusal.the-variants.{OutOfRange, PastRom, NoInstruction, Unsupported, BadTarget, StackFull, StackEmpty, PastTable}
-use Rattle.station_file.proofs.FileNumbers.{refusalWith, there-and-back, file-number}
+use Rattle.station_file.proofs.FileNumbers.{numbered, numbered-again, file-number}
 use Rattle.station_file.specs.Answers.{fileNumber, readReply, writeReply}
 use Rattle.station_file.specs.declared.FileRefusal.{FileRefusal}
 use Rattle.station_file.specs.declared.Loaded.{Loaded}
@@ -44,20 +44,20 @@ not-0 : (f : FileRefusal) → fileNumber f ≡ 0 → ⊥
 not-0 f e = omega (arith, file-number f)
 
 loadedIn : ReadReply → Loaded
-loadedIn r = cond (eqb (r .number) 0) (loaded.Station (r .words) (r .entries) (r .records)) (loaded.Refused (refusalWith (r .number)))
+loadedIn r = cond (eqb (r .number) 0) (loaded.Station (r .words) (r .entries) (r .records)) (loaded.Refused (numbered (r .number)))
 
 loaded-back : (l : Loaded) → loadedIn (readReplyOf (readReply l)) ≡ l
 unfolding loadedIn
 loaded-back (loaded.Station words entries records) = refl
-loaded-back (loaded.Refused f) = rw (ne-eqb (fileNumber f) 0 (not-0 f)) (ap loaded.Refused (there-and-back f))
+loaded-back (loaded.Refused f) = rw (ne-eqb (fileNumber f) 0 (not-0 f)) (ap loaded.Refused (numbered-again f))
 
 writtenIn : OutputReply → Written
-writtenIn r = cond (eqb (r .number) 0) (written.Bytes (r .length)) (written.Refused (refusalWith (r .number)))
+writtenIn r = cond (eqb (r .number) 0) (written.Bytes (r .length)) (written.Refused (numbered (r .number)))
 
 written-back : (w : Written) → writtenIn (writeReplyOf (writeReply w)) ≡ w
 unfolding writtenIn
 written-back (written.Bytes n) = refl
-written-back (written.Refused f) = rw (ne-eqb (fileNumber f) 0 (not-0 f)) (ap written.Refused (there-and-back f))
+written-back (written.Refused f) = rw (ne-eqb (fileNumber f) 0 (not-0 f)) (ap written.Refused (numbered-again f))
 
 printedIn : OutputReply → Printed
 printedIn r = cond (eqb (r .number) 0) (Text (r .length)) TooShort

@@ -11,20 +11,20 @@ use Rattle.station_file.specs.declared.FileRefusal.{FileRefusal}
 use Rattle.station_file.specs.declared.FileRefusal.the-variants.{Form, Early, Count, Entry, After, Room}
 
 -- the refusal with a number
-pub refusalWith : ℕ → FileRefusal
-refusalWith n = getD (Form ∷ Early ∷ Count ∷ Entry ∷ After ∷ Room ∷ []) (n - 20) Form
+pub numbered : ℕ → FileRefusal
+numbered n = getD (Form ∷ Early ∷ Count ∷ Entry ∷ After ∷ Room ∷ []) (n - 20) Form
 
-pub there-and-back : (f : FileRefusal) → refusalWith (fileNumber f) ≡ f
-unfolding refusalWith
-there-and-back Form = refl
-there-and-back Early = refl
-there-and-back Count = refl
-there-and-back Entry = refl
-there-and-back After = refl
-there-and-back Room = refl
+pub numbered-again : (f : FileRefusal) → numbered (fileNumber f) ≡ f
+unfolding numbered
+numbered-again Form = refl
+numbered-again Early = refl
+numbered-again Count = refl
+numbered-again Entry = refl
+numbered-again After = refl
+numbered-again Room = refl
 
 pub numbers-apart : (f g : FileRefusal) → fileNumber f ≡ fileNumber g → f ≡ g
-numbers-apart = LeftInverse·injective refusalWith fileNumber there-and-back
+numbers-apart = LeftInverse·injective numbered fileNumber numbered-again
 
 pub file-number : (f : FileRefusal) → 20 ≤ fileNumber f
 file-number Form = lit≤ tt

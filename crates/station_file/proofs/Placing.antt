@@ -27,27 +27,28 @@ length-part file at n h = length-take-le n (drop at file) (omega (arith, length-
 whole-records : (n : ℕ) → 11 * n / 11 ≡ n
 whole-records n = mul-div-cancel-left n (lit< tt)
 
+pub inside : (file : List ℕ) {l : Layout} {w a e b n d : ℕ} → l ≡ layout.Station w a e b n d → LayoutFits file l
+    → (a + 2 * w ≤ length file) × (b + e ≤ length file) × (d + 11 * n ≤ length file)
+inside file k f = rw k at f
+
 module _ (form : Form) (q : form ≡ form1) (file : List ℕ) (l : Layout) (h : stationIn file l ≡ parseOf form file) where
   parsed : parseOf form1 file ≡ stationIn file l
   parsed = sym (h ∙ ap (λ (f : Form). parseOf f file) q)
 
-  pub refuses : (b : Buffers) (f g : FileRefusal) → l ≡ layout.Refused g → f ≡ layoutRefusal l → readBy (loaded.Refused f) b ≡ readOf form1 file b
+  pub refuses : (b : Buffers) {f g : FileRefusal} → l ≡ layout.Refused g → f ≡ layoutRefusal l → readBy (loaded.Refused f) b ≡ readOf form1 file b
   unfolding readOf
-  refuses b f g e i = rw (parsed, i, e) refl
+  refuses b e i = rw (parsed, i, e) refl
 
-  module _ (w a e b n d : ℕ) (k : l ≡ layout.Station w a e b n d) where
+  module _ {w a e b n d : ℕ} (k : l ≡ layout.Station w a e b n d) where
     station-in : parseOf form1 file ≡ stationIn file (layout.Station w a e b n d)
     station-in = parsed ∙ ap (stationIn file) k
 
-    pub inside : LayoutFits file l → (a + 2 * w ≤ length file) × (b + e ≤ length file) × (d + 11 * n ≤ length file)
-    inside f = rw k at f
-
     module _ (f : LayoutFits file l) (rom sheet inputs : List ℕ) where
       sheet-length : length (take e (drop b file)) ≡ e
-      sheet-length = length-part file b e (inside f .1)
+      sheet-length = length-part file b e (inside file k f .1)
 
       inputs-length : length (take (11 * n) (drop d file)) ≡ 11 * n
-      inputs-length = length-part file d (11 * n) (inside f .2)
+      inputs-length = length-part file d (11 * n) (inside file k f .2)
 
       abbrev Full : Type 0
       Full = readBy (loaded.Refused Room) (buffersOf rom sheet inputs) ≡ readOf form1 file (buffersOf rom sheet inputs)

@@ -24,6 +24,10 @@ use Rattle.station_file.specs.declared.Written.the-variants as written
 use Rattle.station_file.proofs.Parts.{flat, length-render as written-length}
 use Rattle.station_file.proofs.Splices.{splice-join, splice-front, length-wordBytes}
 
+-- the sizes of a station that passed the tests
+pub small : (rom sheet : List ℕ) {k : Test} → k ≡ test.Passed → TestFits rom sheet k → (length rom ≤ 1024) × (length sheet ≤ 1024)
+small rom sheet e f = rw e at f
+
 -- two parts written one after the other
 pub both : (at : ℕ) (xs : List ℕ) (next : ℕ) (ys : List ℕ) (out out₁ out₂ : List ℕ) → next ≡ at + length xs → at + length xs ≤ length out
     → out₁ ≡ splice at xs out → out₂ ≡ splice next ys out₁ → out₂ ≡ splice at (xs ++ ys) out
@@ -76,10 +80,10 @@ module _ (rom sheet inputs : List ℕ) where
       no-zero After = refl
       no-zero Room = refl
 
-      pub refuses : (f g : FileRefusal) → k ≡ test.Refused g → f ≡ testRefusal k
+      pub refuses : {f g : FileRefusal} → k ≡ test.Refused g → f ≡ testRefusal k
           → writtenBy (written.Refused f) out ≡ writeOf form1 (stationOf rom sheet inputs) out
       unfolding writeOf
-      refuses f g e i = rw (fault, i, e, no-zero g) refl
+      refuses {f} {g} e i = rw (fault, i, e, no-zero g) refl
 
       good : k ≡ test.Passed → stationRefusal form1 (stationOf rom sheet inputs) ≡ 0
       good e = fault ∙ ap testNumber e
@@ -97,6 +101,3 @@ module _ (rom sheet inputs : List ℕ) where
       unfolding writeOf
       writes e l out₁ o =
           rw (o ∙ ap (λ (f : station.Form). overlay (renderOf f (stationOf rom sheet inputs)) out) q, good e, lengths, le-leb size (length out) l) refl
-
-      pub small : k ≡ test.Passed → TestFits rom sheet k → (length rom ≤ 1024) × (length sheet ≤ 1024)
-      small e f = rw e at f

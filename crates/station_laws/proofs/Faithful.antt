@@ -1,27 +1,37 @@
--- Different answers differ in document 01's numbers.
+-- The answers of the reader and the writer are found again from document 01's numbers.
 -- Assumes nothing.
-use mathlib.Core.Path.{_≡_, ap}
-use Prim.Native.Nat.{ℕ}
-use native.Mathlib.Omega.{arith}
+use mathlib.Core.Path.{_≡_, refl, ap}
+use mathlib.Mathlib.Logic.Function.Defs.{LeftInverse·injective}
 use Rattle.station_file.specs.Answers.{readReply, writeReply}
-use Rattle.station_file.proofs.FileNumbers.{numbers-apart}
-use Rattle.station_laws.specs.Faithful.{Faithful}
+use Rattle.station_file.specs.Read as read
+use Rattle.station_file.specs.Write as write
 use Rattle.station_file.specs.declared.Loaded.{Loaded}
 use Rattle.station_file.specs.declared.Loaded.the-variants as loaded
 use Rattle.station_file.specs.declared.Written.{Written}
 use Rattle.station_file.specs.declared.Written.the-variants as written
+use Rattle.station_file.proofs.FileNumbers.{numbered, numbered-again}
+use Rattle.station_laws.specs.Faithful.{Faithful}
 
-reads : (a b : Loaded) → readReply a ≡ readReply b → a ≡ b
-reads (loaded.Station w s n) (loaded.Station x t m) e = cc
-reads (loaded.Station w s n) (loaded.Refused g) e = absurd (let z : _≡_ {A = ℕ} 0 1 = cc in omega arith)
-reads (loaded.Refused f) (loaded.Station x t m) e = absurd (let z : _≡_ {A = ℕ} 0 1 = cc in omega arith)
-reads (loaded.Refused f) (loaded.Refused g) e = ap loaded.Refused (numbers-apart f g (cc))
+loadedFrom : read.Reply → Loaded
+loadedFrom (read.station words entries records) = loaded.Station words entries records
+loadedFrom (read.refused n) = loaded.Refused (numbered n)
 
-writes : (a b : Written) → writeReply a ≡ writeReply b → a ≡ b
-writes (written.Bytes n) (written.Bytes m) e = cc
-writes (written.Bytes n) (written.Refused g) e = absurd (let z : _≡_ {A = ℕ} 0 1 = cc in omega arith)
-writes (written.Refused f) (written.Bytes m) e = absurd (let z : _≡_ {A = ℕ} 0 1 = cc in omega arith)
-writes (written.Refused f) (written.Refused g) e = ap written.Refused (numbers-apart f g (cc))
+loaded-again : (a : Loaded) → loadedFrom (readReply a) ≡ a
+unfolding loadedFrom
+loaded-again (loaded.Station words entries records) = refl
+loaded-again (loaded.Refused f) = ap loaded.Refused (numbered-again f)
+
+writtenFrom : write.Reply → Written
+writtenFrom (write.wrote n) = written.Bytes n
+writtenFrom (write.refused n) = written.Refused (numbered n)
+
+written-again : (a : Written) → writtenFrom (writeReply a) ≡ a
+unfolding writtenFrom
+written-again (written.Bytes n) = refl
+written-again (written.Refused f) = ap written.Refused (numbered-again f)
 
 pub faithful : Faithful
-faithful = record { reads = reads; writes = writes }
+faithful = record {
+  reads = LeftInverse·injective loadedFrom readReply loaded-again;
+  writes = LeftInverse·injective writtenFrom writeReply written-again;
+}

@@ -7,22 +7,20 @@ use Rattle.station_file.proofs.sections.form_section.Tie as tie
 returns : tie.Need-returns
 returns c =
     let a = c .before .before .before .before .args in
-    let r = c .before .before .read-number in
-    (form-early (formOf (a .form)) (a .file .now) (r .result) (r .ensures .0) (c .enum-told .given .1), tt)
+    (form-early (formOf (a .form)) (a .file .now) (c .before .before .read-number .ensures .0) (c .enum-told .given .1), tt)
 
 returns-2 : tie.Need-returns-2
 returns-2 c =
     let a = c .before .before .before .before .before .before .before .args in
     let r = c .before .before .before .before .before .read-number in
-    let g = c .before .before .before .value .given in
-    (form-other (formOf (a .form)) (a .file .now) (r .result) (r .ensures .0) (g .0 .0) (g .0 .1 .0) (g .1) (c .if1 .taken), tt)
+    (form-other (formOf (a .form)) (a .file .now) (r .ensures .0) (c .before .before .before .value .given .1) (c .if1 .taken), tt)
 
 returns-3 : tie.Need-returns-3
 returns-3 c =
     let a = c .before .before .before .before .before .before .before .args in
     let r = c .before .before .before .before .before .read-number in
-    let g = c .before .before .before .value .given in
-    (form-same (formOf (a .form)) (a .file .now) (r .result) (r .ensures .0) (g .0 .0) (g .0 .1 .0) (g .1) (c .if1 .left), fits-of (a .file .now) (r .result) (g .0 .0) (g .0 .1 .0) (g .1) (r .ensures .1) .1)
+    let g = c .before .before .before .value .given .1 in
+    (form-same (formOf (a .form)) (a .file .now) (r .ensures .0) g (c .if1 .left), fits-of (a .file .now) g (r .ensures .1) .1)
 
 pub form-section-spec : {M : Type 1} → statement M
 form-section-spec =

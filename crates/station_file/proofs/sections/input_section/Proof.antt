@@ -1,72 +1,75 @@
-use Rattle.station_file.specs.Places.{formOf}
-use Prim.Native.Nat.{_*_}
-use Rattle.station_file.proofs.Parsing.{input-early, input-large, input-bad, input-whole, scan-fits, fits-of}
-use native.Mathlib.Omega.{arith}
 use mathlib.Core.Path.{refl}
+use mathlib.Core.Bool.{Bool}
+use Prim.Native.Nat.{ℕ, _*_}
+use native.Mathlib.Omega.{arith}
 use borrow.Author.Needs.{needs}
+use borrow.Author.Tests.{le-leb, lt-leb}
+use lib.Dec.{leb}
+use Rattle.station_file.specs.Station.{inputByte, inputSection}
+use Rattle.station_file.proofs.Counted.{bytes}
+use Rattle.station_file.proofs.Parsing.{early, miscounted, scan-fails, scan-passes, scan-fits, fits-of}
 use Rattle.station_file.proofs.sections.input_section.Statement.{statement}
 use Rattle.station_file.proofs.sections.input_section.Tie as tie
 
+abbrev few : ℕ → ℕ → Bool
+few most n = leb n most
+
+abbrev eleven : ℕ → ℕ
+eleven n = 11 * n
+
 returns : tie.Need-returns
+unfolding inputSection
 returns c =
     let a = c .before .before .before .before .args in
-    let r = c .before .before .read-number in
-    (input-early (formOf (a .form)) refl (a .file .now) (a .at) (r .result) (r .ensures .0) (c .enum-told .given .1), tt)
+    (early (bytes inputByte) (few (a .form .most)) eleven (a .file .now) (a .at) (c .before .before .read-number .ensures .0) (c .enum-told .given .1), tt)
 
 returns-2 : tie.Need-returns-2
+unfolding inputSection
 returns-2 c =
     let a = c .before .before .before .before .before .before .before .args in
     let r = c .before .before .before .before .before .read-number in
-    let g = c .before .before .before .count .given in
-    (input-large (formOf (a .form)) refl (a .file .now) (a .at) (r .result) (r .ensures .0) (g .0 .0) (g .0 .1 .0) (g .1) (c .if1 .taken), tt)
+    (miscounted (bytes inputByte) (few (a .form .most)) eleven (a .file .now) (a .at) (r .ensures .0) (c .before .before .before .count .given .1) (lt-leb _ _ (c .if1 .taken)), tt)
 
 mul-inputs : tie.Need-mul-inputs
 mul-inputs c =
     let a = c .before .before .before .before .before .before .before .args in
-    let r = c .before .before .before .before .before .read-number in
-    let g = c .before .before .before .count .given in
-    let f = fits-of (a .file .now) (r .result) (g .0 .0) (g .0 .1 .0) (g .1) (r .ensures .1) in
-    omega (arith, f .0)
+    omega (arith, fits-of (a .file .now) (c .before .before .before .count .given .1) (c .before .before .before .before .before .read-number .ensures .1) .0)
 
 inputs-requires : tie.Need-inputs-requires
 inputs-requires c κs =
     let a = c .before .before .before .before .before .before .before .args in
-    let r = c .before .before .before .before .before .read-number in
-    let g = c .before .before .before .count .given in
-    fits-of (a .file .now) (r .result) (g .0 .0) (g .0 .1 .0) (g .1) (r .ensures .1) .1
+    fits-of (a .file .now) (c .before .before .before .count .given .1) (c .before .before .before .before .before .read-number .ensures .1) .1
 
 mul-t14 : tie.Need-mul-t14
 mul-t14 c =
     let a = c .before .before .before .before .before .before .before .before .before .before .args in
     let r = c .before .before .before .before .before .before .before .before .read-number in
-    let g = c .before .before .before .before .before .before .count .given in
-    let f = fits-of (a .file .now) (r .result) (g .0 .0) (g .0 .1 .0) (g .1) (r .ensures .1) in
-    omega (arith, f .0)
+    omega (arith, fits-of (a .file .now) (c .before .before .before .before .before .before .count .given .1) (r .ensures .1) .0)
 
 add-t15 : tie.Need-add-t15
 add-t15 c =
     let a = c .before .before .before .before .before .before .before .before .before .before .args in
-    let r = c .before .before .before .before .before .before .before .before .read-number in
-    let g = c .before .before .before .before .before .before .count .given in
-    let f = scan-fits (a .file .now) (g .0 .1 .0) (11 * g .0 .0) (c .before .before .inputs .result) (c .enum-told2 .given .1) (c .before .before .inputs .ensures .1) in
-    omega (arith, f)
+    omega (arith, scan-fits (a .file .now) _ _ (c .enum-told2 .given .1) (c .before .before .inputs .ensures .1))
 
 returns-3 : tie.Need-returns-3
+unfolding inputSection
 returns-3 c =
     let a = c .before .before .before .before .before .before .before .before .before .before .before .args in
     let r = c .before .before .before .before .before .before .before .before .before .read-number in
-    let g = c .before .before .before .before .before .before .before .count .given in
-    let k = c .before .refusal .given in
-    (input-bad (formOf (a .form)) refl (a .file .now) (a .at) (r .result) (r .ensures .0) (g .0 .0) (g .0 .1 .0) (g .1) (c .before .before .before .before .if1 .left) (c .before .before .before .inputs .result) (k .0 .0) (k .1) (c .before .before .before .inputs .ensures .0), tt)
+    let g = c .before .before .before .before .before .before .before .count .given .1 in
+    let good = le-leb _ _ (c .before .before .before .before .if1 .left) in
+    (scan-fails (bytes inputByte) (few (a .form .most)) eleven (a .file .now) (a .at) (r .ensures .0) g good (c .before .refusal .given .1) (c .before .before .before .inputs .ensures .0), tt)
 
 returns-4 : tie.Need-returns-4
+unfolding inputSection
 returns-4 c =
     let a = c .before .before .before .before .before .before .before .before .before .before .args in
     let r = c .before .before .before .before .before .before .before .before .read-number in
-    let g = c .before .before .before .before .before .before .count .given in
-    let k = c .enum-told2 .given .1 in (
-      input-whole (formOf (a .form)) refl (a .file .now) (a .at) (r .result) (r .ensures .0) (g .0 .0) (g .0 .1 .0) (g .1) (c .before .before .before .if1 .left) (c .before .before .inputs .result) k (c .before .before .inputs .ensures .0),
-      (refl, scan-fits (a .file .now) (g .0 .1 .0) (11 * g .0 .0) (c .before .before .inputs .result) k (c .before .before .inputs .ensures .1)),
+    let g = c .before .before .before .before .before .before .count .given .1 in
+    let good = le-leb _ _ (c .before .before .before .if1 .left) in
+    let i = c .before .before .inputs in (
+      scan-passes (bytes inputByte) (few (a .form .most)) eleven (a .file .now) (a .at) (r .ensures .0) g good (c .enum-told2 .given .1) (i .ensures .0),
+      (refl, scan-fits (a .file .now) _ _ (c .enum-told2 .given .1) (i .ensures .1)),
     )
 
 pub input-section-spec : {M : Type 1} → statement M

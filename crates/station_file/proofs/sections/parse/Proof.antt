@@ -8,9 +8,7 @@ use Rattle.station_file.proofs.sections.parse.Tie as tie
 after-form-requires : tie.Need-after-form-requires
 after-form-requires c κs =
     let a = c .before .before .before .before .before .args in
-    let r = c .before .before .before .form-section in
-    let g = c .before .at .given in
-    opening-fits (a .file .now) (r .result) (g .0 .0) (g .1) (r .ensures .1)
+    opening-fits (a .file .now) (c .before .at .given .1) (c .before .before .before .form-section .ensures .1)
 
 returns : tie.Need-returns
 returns c =

@@ -1,55 +1,58 @@
-use Rattle.station_file.proofs.Parsing.{sheet-early, sheet-miscounted, sheet-bad, sheet-whole, scan-fits, fits-of}
-use borrow.Author.Tests.{not-true, not-false}
-use native.Mathlib.Omega.{arith}
 use mathlib.Core.Path.{_∙_, sym}
+use Prim.Native.Nat.{ℕ}
+use native.Mathlib.Nat.{one-mul}
+use native.Mathlib.Omega.{arith}
 use borrow.Author.Needs.{needs}
+use borrow.Author.Tests.{not-true, not-false}
+use Rattle.station_file.specs.Station.{entryByte, sheetCount, sheetSection}
+use Rattle.station_file.proofs.Counted.{bytes}
+use Rattle.station_file.proofs.Parsing.{early, miscounted, scan-fails, scan-passes, scan-fits, fits-of}
 use Rattle.station_file.proofs.sections.sheet_section.Statement.{statement}
 use Rattle.station_file.proofs.sections.sheet_section.Tie as tie
 
 returns : tie.Need-returns
+unfolding sheetSection
 returns c =
     let a = c .before .before .before .before .args in
-    let r = c .before .before .read-number in
-    (sheet-early (a .file .now) (a .at) (r .result) (r .ensures .0) (a .words) (c .enum-told .given .1), tt)
+    (early (bytes entryByte) (sheetCount (a .words)) (λ (n : ℕ). n) (a .file .now) (a .at) (c .before .before .read-number .ensures .0) (c .enum-told .given .1), tt)
 
 returns-2 : tie.Need-returns-2
+unfolding sheetSection
 returns-2 c =
     let a = c .before .before .before .before .before .before .before .args in
     let r = c .before .before .before .before .before .read-number in
-    let g = c .before .before .before .count .given in
-    (sheet-miscounted (a .file .now) (a .at) (r .result) (r .ensures .0) (a .words) (g .0 .0) (g .0 .1 .0) (g .1) (sym (c .before .sheet-count .ensures) ∙ not-true _ (c .if1 .taken)), tt)
+    let bad = sym (c .before .sheet-count .ensures) ∙ not-true _ (c .if1 .taken) in
+    (miscounted (bytes entryByte) (sheetCount (a .words)) (λ (n : ℕ). n) (a .file .now) (a .at) (r .ensures .0) (c .before .before .before .count .given .1) bad, tt)
 
 entries-requires : tie.Need-entries-requires
 entries-requires c κs =
     let a = c .before .before .before .before .before .before .before .args in
-    let r = c .before .before .before .before .before .read-number in
-    let g = c .before .before .before .count .given in
-    fits-of (a .file .now) (r .result) (g .0 .0) (g .0 .1 .0) (g .1) (r .ensures .1) .1
+    fits-of (a .file .now) (c .before .before .before .count .given .1) (c .before .before .before .before .before .read-number .ensures .1) .1
 
 add-t14 : tie.Need-add-t14
 add-t14 c =
     let a = c .before .before .before .before .before .before .before .before .before .before .args in
-    let r = c .before .before .before .before .before .before .before .before .read-number in
-    let g = c .before .before .before .before .before .before .count .given in
-    let f = scan-fits (a .file .now) (g .0 .1 .0) (g .0 .0) (c .before .before .entries .result) (c .enum-told2 .given .1) (c .before .before .entries .ensures .1) in
-    omega (arith, f)
+    omega (arith, scan-fits (a .file .now) _ _ (c .enum-told2 .given .1) (c .before .before .entries .ensures .1))
 
 returns-3 : tie.Need-returns-3
+unfolding sheetSection
 returns-3 c =
     let a = c .before .before .before .before .before .before .before .before .before .before .before .args in
     let r = c .before .before .before .before .before .before .before .before .before .read-number in
-    let g = c .before .before .before .before .before .before .before .count .given in
-    let k = c .before .refusal .given in
-    (sheet-bad (a .file .now) (a .at) (r .result) (r .ensures .0) (a .words) (g .0 .0) (g .0 .1 .0) (g .1) (sym (c .before .before .before .before .before .sheet-count .ensures) ∙ not-false _ (c .before .before .before .before .if1 .left)) (c .before .before .before .entries .result) (k .0 .0) (k .1) (c .before .before .before .entries .ensures .0), tt)
+    let g = c .before .before .before .before .before .before .before .count .given .1 in
+    let good = sym (c .before .before .before .before .before .sheet-count .ensures) ∙ not-false _ (c .before .before .before .before .if1 .left) in
+    (scan-fails (bytes entryByte) (sheetCount (a .words)) (λ (n : ℕ). n) (a .file .now) (a .at) (r .ensures .0) g good (c .before .refusal .given .1) (c .before .before .before .entries .ensures .0), tt)
 
 returns-4 : tie.Need-returns-4
+unfolding sheetSection
 returns-4 c =
     let a = c .before .before .before .before .before .before .before .before .before .before .args in
     let r = c .before .before .before .before .before .before .before .before .read-number in
     let g = c .before .before .before .before .before .before .count .given in
-    let k = c .enum-told2 .given .1 in (
-      sheet-whole (a .file .now) (a .at) (r .result) (r .ensures .0) (a .words) (g .0 .0) (g .0 .1 .0) (g .1) (sym (c .before .before .before .before .sheet-count .ensures) ∙ not-false _ (c .before .before .before .if1 .left)) (c .before .before .entries .result) k (c .before .before .entries .ensures .0),
-      (omega arith, scan-fits (a .file .now) (g .0 .1 .0) (g .0 .0) (c .before .before .entries .result) k (c .before .before .entries .ensures .1)),
+    let good = sym (c .before .before .before .before .sheet-count .ensures) ∙ not-false _ (c .before .before .before .if1 .left) in
+    let e = c .before .before .entries in (
+      rw (one-mul (g .0 .0)) (scan-passes (bytes entryByte) (sheetCount (a .words)) (λ (n : ℕ). n) (a .file .now) (a .at) (r .ensures .0) (g .1) good (c .enum-told2 .given .1) (e .ensures .0)),
+      (omega arith, scan-fits (a .file .now) _ _ (c .enum-told2 .given .1) (e .ensures .1)),
     )
 
 pub sheet-section-spec : {M : Type 1} → statement M

@@ -23,15 +23,6 @@ loop-holds c = (five-long _ (omega arith), omega arith, omega arith, sym (append
 sub-i : tie.Need-sub-i Inv-loop μ-loop
 sub-i c = omega (arith, one-longer _ (c .loop-test .taken))
 
-cast-hex-digit : tie.Need-cast-hex-digit Inv-loop μ-loop
-cast-hex-digit c = omega arith
-
-array-write-digits : tie.Need-array-write-digits Inv-loop μ-loop
-array-write-digits c = omega arith
-
-loop-less : tie.Need-loop-less Inv-loop μ-loop
-loop-less c = omega arith
-
 loop-again : tie.Need-loop-again Inv-loop μ-loop
 loop-again c =
     let l = c .before .before .loop in
@@ -46,20 +37,11 @@ loop-again c =
 sub-i-2 : tie.Need-sub-i-2 Inv-loop μ-loop
 sub-i-2 c = omega (arith, one-long _ (c .loop-test .left))
 
-cast-hex-digit-2 : tie.Need-cast-hex-digit-2 Inv-loop μ-loop
-cast-hex-digit-2 c = omega arith
-
-array-write-digits-2 : tie.Need-array-write-digits-2 Inv-loop μ-loop
-array-write-digits-2 c = omega arith
-
 -- the digits stored are those of the number
 written : (c : tie.After-hex-digit2 Inv-loop μ-loop) → take (5 - (c .before .before .loop .i - 1)) (drop (c .before .before .loop .i - 1) (set (c .before .before .loop .digits) (c .before .before .loop .i - 1) (c .hex-digit2 .result))) ≡ decimal (c .before .before .before .before .args .n)
 written c =
     let l = c .before .before .loop in
     digit-last _ (l .rest) (l .i) (c .hex-digit2 .result) (l .digits) (omega (arith, one-long (l .rest) (c .before .loop-test .left))) (omega arith) (l .inv .3) (c .before .loop-test .left) (c .hex-digit2 .ensures) (l .inv .2)
-
-sub-put : tie.Need-sub-put Inv-loop μ-loop
-sub-put c = omega arith
 
 part-put-end : tie.Need-part-put-end Inv-loop μ-loop
 part-put-end c =
@@ -80,6 +62,6 @@ returns c =
 pub put-decimal-spec : {M : Type 1} → statement M
 put-decimal-spec =
     tie.close
-    (tie.spec Inv-loop μ-loop loop-holds sub-i cast-hex-digit (λ c κs. search needs) array-write-digits loop-less loop-again
-    sub-i-2 cast-hex-digit-2 (λ c κs. search needs) array-write-digits-2 sub-put (λ c. search needs) part-put-end put-requires
-    (λ c. search needs) returns)
+    (tie.spec Inv-loop μ-loop loop-holds sub-i (λ c. omega arith) (λ c κs. search needs) (λ c. omega arith) (λ c. omega arith)
+    loop-again sub-i-2 (λ c. omega arith) (λ c κs. search needs) (λ c. omega arith) (λ c. omega arith) (λ c. search needs)
+    part-put-end put-requires (λ c. search needs) returns)

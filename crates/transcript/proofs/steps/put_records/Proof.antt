@@ -18,25 +18,10 @@ abbrev μ-loop : tie.MeasureT-loop
 loop-holds : tie.Need-loop-holds Inv-loop μ-loop
 loop-holds c = (omega arith, begins _ _ _ _ _ (c .reset .ensures))
 
-input-at-requires : tie.Need-input-at-requires Inv-loop μ-loop
-input-at-requires c κs = omega arith
-
-add-put-record : tie.Need-add-put-record Inv-loop μ-loop
-add-put-record c = omega arith
-
-cast-put-record : tie.Need-cast-put-record Inv-loop μ-loop
-cast-put-record c = omega arith
-
 put-record-requires : tie.Need-put-record-requires Inv-loop μ-loop
 put-record-requires c κs =
     let w = c .before .before .before .loop .inv .1 in
     (omega (arith, w .wrote .short), omega (arith, w .counted))
-
-add-k : tie.Need-add-k Inv-loop μ-loop
-add-k c = omega arith
-
-loop-less : tie.Need-loop-less Inv-loop μ-loop
-loop-less c = omega arith
 
 loop-again : tie.Need-loop-again Inv-loop μ-loop
 loop-again c =
@@ -58,5 +43,5 @@ returns c =
 pub put-records-spec : {M : Type 1} → statement M
 put-records-spec =
     tie.close
-    (tie.spec Inv-loop μ-loop (λ c κs. search needs) loop-holds input-at-requires add-put-record cast-put-record
-    put-record-requires add-k loop-less loop-again same-length returns)
+    (tie.spec Inv-loop μ-loop (λ c κs. search needs) loop-holds (λ c κs. omega arith) (λ c. omega arith) (λ c. omega arith)
+    put-record-requires (λ c. omega arith) (λ c. omega arith) loop-again same-length returns)

@@ -17,6 +17,4 @@ returns c =
     whole (record { rom = s .rom .now; sheet = s .sheet .now; inputs = s .inputs .now }) (c .before .before .before .before .before .before .put-records .result) (c .before .before .before .before .before .before .before .before .before .before .before .before .before .before .before .before .pre) (c .before .before .before .before .before .before .before .before .before .before .put-sheet .ensures (s .inputs .now)) (c .before .before .before .before .before .before .put-records .ensures) (c .before .before .put-end .ensures)
 
 pub put-station-spec : {M : Type 1} → statement M
-put-station-spec =
-    tie.close
-    (tie.spec (λ c κs. search needs) put-records-requires put-end-requires (λ c. search needs) returns)
+put-station-spec = tie.close (tie.spec (λ c κs. search needs) put-records-requires put-end-requires (λ c. search needs) returns)
