@@ -8,12 +8,12 @@
 typedef struct {
     pollwezen_machine machines[2];
     pollwezen_input inputs[2];
-    pollwezen_run_reply run_replies[2];
-    pollwezen_verdict_reply verdict_replies[2];
-    pollwezen_read_reply read_replies[2];
-    pollwezen_output_reply output_replies[2];
-    pollwezen_decoded_row decoded_rows[2];
-    pollwezen_encoded_row encoded_rows[2];
+    pollwezen_run_reply runs[2];
+    pollwezen_verdict_reply verdicts[2];
+    pollwezen_read_reply reads[2];
+    pollwezen_output_reply outputs[2];
+    pollwezen_decoded_row decoded[2];
+    pollwezen_encoded_row encoded[2];
 } laid;
 
 void layout_fill(laid *lent);
@@ -61,24 +61,24 @@ static void fields(unsigned i) {
         PLACE(inputs, pollwezen_input, directions, n, 6 + n);
     }
     FIELD(inputs, pollwezen_input, release, 11);
-    FIELD(run_replies, pollwezen_run_reply, steps, 1);
-    FIELD(run_replies, pollwezen_run_reply, number, 2);
-    FIELD(verdict_replies, pollwezen_verdict_reply, number, 1);
-    FIELD(verdict_replies, pollwezen_verdict_reply, word, 2);
-    FIELD(verdict_replies, pollwezen_verdict_reply, rule, 3);
-    FIELD(read_replies, pollwezen_read_reply, number, 1);
-    FIELD(read_replies, pollwezen_read_reply, words, 2);
-    FIELD(read_replies, pollwezen_read_reply, entries, 3);
-    FIELD(read_replies, pollwezen_read_reply, records, 4);
-    FIELD(output_replies, pollwezen_output_reply, number, 1);
-    FIELD(output_replies, pollwezen_output_reply, length, 2);
-    FIELD(decoded_rows, pollwezen_decoded_row, number, 1);
-    FIELD(decoded_rows, pollwezen_decoded_row, row, 2);
-    FIELD(decoded_rows, pollwezen_decoded_row, first, 3);
-    FIELD(decoded_rows, pollwezen_decoded_row, second, 4);
-    FIELD(decoded_rows, pollwezen_decoded_row, addr, 5);
-    FIELD(encoded_rows, pollwezen_encoded_row, number, 1);
-    FIELD(encoded_rows, pollwezen_encoded_row, word, 2);
+    FIELD(runs, pollwezen_run_reply, steps, 1);
+    FIELD(runs, pollwezen_run_reply, number, 2);
+    FIELD(verdicts, pollwezen_verdict_reply, number, 1);
+    FIELD(verdicts, pollwezen_verdict_reply, word, 2);
+    FIELD(verdicts, pollwezen_verdict_reply, rule, 3);
+    FIELD(reads, pollwezen_read_reply, number, 1);
+    FIELD(reads, pollwezen_read_reply, words, 2);
+    FIELD(reads, pollwezen_read_reply, entries, 3);
+    FIELD(reads, pollwezen_read_reply, records, 4);
+    FIELD(outputs, pollwezen_output_reply, number, 1);
+    FIELD(outputs, pollwezen_output_reply, length, 2);
+    FIELD(decoded, pollwezen_decoded_row, number, 1);
+    FIELD(decoded, pollwezen_decoded_row, row, 2);
+    FIELD(decoded, pollwezen_decoded_row, first, 3);
+    FIELD(decoded, pollwezen_decoded_row, second, 4);
+    FIELD(decoded, pollwezen_decoded_row, addr, 5);
+    FIELD(encoded, pollwezen_encoded_row, number, 1);
+    FIELD(encoded, pollwezen_encoded_row, word, 2);
 }
 
 void layout(void) {

@@ -13,12 +13,12 @@ use crate::structs::{
 struct Laid {
     machines: [LentMachine; 2],
     inputs: [LentInput; 2],
-    run_replies: [RunReply; 2],
-    verdict_replies: [VerdictReply; 2],
-    read_replies: [ReadReply; 2],
-    output_replies: [OutputReply; 2],
-    decoded_rows: [DecodedRow; 2],
-    encoded_rows: [EncodedRow; 2],
+    runs: [RunReply; 2],
+    verdicts: [VerdictReply; 2],
+    reads: [ReadReply; 2],
+    outputs: [OutputReply; 2],
+    decoded: [DecodedRow; 2],
+    encoded: [EncodedRow; 2],
 }
 
 extern "C" {
@@ -99,11 +99,11 @@ pub fn layout() -> Result<(), String> {
     look!(search, inputs: LentInput, [pins] |n, _| 1 + n);
     look!(search, inputs: LentInput, [directions] |n, _| 6 + n);
     look!(search, inputs: LentInput, release 11);
-    look!(search, run_replies: RunReply, steps 1, number 2);
-    look!(search, verdict_replies: VerdictReply, number 1, word 2, rule 3);
-    look!(search, read_replies: ReadReply, number 1, words 2, entries 3, records 4);
-    look!(search, output_replies: OutputReply, number 1, length 2);
-    look!(search, decoded_rows: DecodedRow, number 1, row 2, first 3, second 4, addr 5);
-    look!(search, encoded_rows: EncodedRow, number 1, word 2);
+    look!(search, runs: RunReply, steps 1, number 2);
+    look!(search, verdicts: VerdictReply, number 1, word 2, rule 3);
+    look!(search, reads: ReadReply, number 1, words 2, entries 3, records 4);
+    look!(search, outputs: OutputReply, number 1, length 2);
+    look!(search, decoded: DecodedRow, number 1, row 2, first 3, second 4, addr 5);
+    look!(search, encoded: EncodedRow, number 1, word 2);
     search.missing.map_or(Ok(()), Err)
 }

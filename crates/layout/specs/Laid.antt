@@ -60,10 +60,10 @@ laidOf =
     record {
       machines = machineOf 255 65535 ∷ machineOf 127 32767 ∷ [];
       inputs = inputOf 255 ∷ inputOf 127 ∷ [];
-      run-replies = runReplyOf 255 4294967295 ∷ runReplyOf 127 2147483647 ∷ [];
-      verdict-replies = verdictReplyOf 255 65535 ∷ verdictReplyOf 127 32767 ∷ [];
-      read-replies = readReplyOf 255 18446744073709551615 ∷ readReplyOf 127 9223372036854775807 ∷ [];
-      output-replies = outputReplyOf 255 18446744073709551615 ∷ outputReplyOf 127 9223372036854775807 ∷ [];
-      decoded-rows = decodedRowOf 255 65535 ∷ decodedRowOf 127 32767 ∷ [];
-      encoded-rows = encodedRowOf 255 65535 ∷ encodedRowOf 127 32767 ∷ [];
+      runs = runReplyOf 255 4294967295 ∷ runReplyOf 127 2147483647 ∷ [];
+      verdicts = verdictReplyOf 255 65535 ∷ verdictReplyOf 127 32767 ∷ [];
+      reads = readReplyOf 255 18446744073709551615 ∷ readReplyOf 127 9223372036854775807 ∷ [];
+      outputs = outputReplyOf 255 18446744073709551615 ∷ outputReplyOf 127 9223372036854775807 ∷ [];
+      decoded = decodedRowOf 255 65535 ∷ decodedRowOf 127 32767 ∷ [];
+      encoded = encodedRowOf 255 65535 ∷ encodedRowOf 127 32767 ∷ [];
     }

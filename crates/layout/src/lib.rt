@@ -19,12 +19,12 @@ use pollwezen::VerdictReply;
 pub struct Laid {
     pub machines: [Machine; 2],
     pub inputs: [Input; 2],
-    pub run_replies: [RunReply; 2],
-    pub verdict_replies: [VerdictReply; 2],
-    pub read_replies: [ReadReply; 2],
-    pub output_replies: [OutputReply; 2],
-    pub decoded_rows: [DecodedRow; 2],
-    pub encoded_rows: [EncodedRow; 2],
+    pub runs: [RunReply; 2],
+    pub verdicts: [VerdictReply; 2],
+    pub reads: [ReadReply; 2],
+    pub outputs: [OutputReply; 2],
+    pub decoded: [DecodedRow; 2],
+    pub encoded: [EncodedRow; 2],
 }
 
 fn machine_with(byte: u8, word: u16) -> Machine
@@ -134,27 +134,27 @@ fn all() -> Laid
     let half: usize = 9223372036854775807;
     let machines = [machine_with(255, 65535), machine_with(127, 32767)];
     let inputs = [input_with(255), input_with(127)];
-    let run_replies = [
+    let runs = [
         run_reply_with(255, 4294967295),
         run_reply_with(127, 2147483647),
     ];
-    let verdict_replies = [
+    let verdicts = [
         verdict_reply_with(255, 65535),
         verdict_reply_with(127, 32767),
     ];
-    let read_replies = [read_reply_with(255, size), read_reply_with(127, half)];
-    let output_replies = [output_reply_with(255, size), output_reply_with(127, half)];
-    let decoded_rows = [decoded_row_with(255, 65535), decoded_row_with(127, 32767)];
-    let encoded_rows = [encoded_row_with(255, 65535), encoded_row_with(127, 32767)];
+    let reads = [read_reply_with(255, size), read_reply_with(127, half)];
+    let outputs = [output_reply_with(255, size), output_reply_with(127, half)];
+    let decoded = [decoded_row_with(255, 65535), decoded_row_with(127, 32767)];
+    let encoded = [encoded_row_with(255, 65535), encoded_row_with(127, 32767)];
     Laid {
         machines: machines,
         inputs: inputs,
-        run_replies: run_replies,
-        verdict_replies: verdict_replies,
-        read_replies: read_replies,
-        output_replies: output_replies,
-        decoded_rows: decoded_rows,
-        encoded_rows: encoded_rows,
+        runs: runs,
+        verdicts: verdicts,
+        reads: reads,
+        outputs: outputs,
+        decoded: decoded,
+        encoded: encoded,
     }
 }
 
