@@ -6,7 +6,7 @@ use std::fmt::{UpperHex, Write};
 use reference::machine::ROM_WORDS;
 use reference::{Answer, Input, Machine, Verdict};
 
-use crate::host::{self, Checked, Report};
+use crate::host::{self, RunReply, VerdictReply};
 
 /// A disagreement, as text for the reader.
 #[derive(Debug)]
@@ -49,12 +49,12 @@ pub fn run(
     machine: &mut Machine,
     input: &Input,
     budget: u32,
-) -> Result<Report, Finding> {
+) -> Result<RunReply, Finding> {
     let before = machine.clone();
     let mut second = before.clone();
     let report = host::run(rom, machine, input, budget);
     let answer = reference::run(rom, &mut second, input, budget);
-    let answer = Report { steps: answer.steps, number: answer.refusal };
+    let answer = RunReply { steps: answer.steps, number: answer.refusal };
     if report == answer && *machine == second {
         return Ok(report);
     }
@@ -77,12 +77,12 @@ fn odd_step(rom: &[u16], mut machine: Machine, input: &Input, budget: u32) -> St
 }
 
 /// The check in both.
-pub fn verify(rom: &[u16], depths: &[u8]) -> Result<Checked, Finding> {
+pub fn verify(rom: &[u16], depths: &[u8]) -> Result<VerdictReply, Finding> {
     let checked = host::verify(rom, depths);
     let answer = match reference::verify(rom, depths) {
-        Verdict::Pass => Checked { number: DONE, word: 0, rule: 0 },
-        Verdict::Fail { word, rule } => Checked { number: FAIL, word, rule },
-        Verdict::Refused(number) => Checked { number, word: 0, rule: 0 },
+        Verdict::Pass => VerdictReply { number: DONE, word: 0, rule: 0 },
+        Verdict::Fail { word, rule } => VerdictReply { number: FAIL, word, rule },
+        Verdict::Refused(number) => VerdictReply { number, word: 0, rule: 0 },
     };
     if checked == answer {
         return Ok(checked);
@@ -100,7 +100,7 @@ pub fn verify(rom: &[u16], depths: &[u8]) -> Result<Checked, Finding> {
 }
 
 /// A verdict with the word that it names.
-pub fn named(rom: &[u16], checked: &Checked) -> String {
+pub fn named(rom: &[u16], checked: &VerdictReply) -> String {
     match rom.get(usize::from(checked.word)) {
         Some(word) if checked.number == FAIL => format!("{checked:?} ({word:04X})"),
         _ => format!("{checked:?}"),
