@@ -13,7 +13,7 @@ mod row;
 use std::hint::black_box;
 use std::{env, fs};
 
-use pollwezen_host as proved;
+use pollwezen_host::{self as proved, LentMachine};
 use reference::station::{read_into, write, write_into};
 use reference::{transcript, Input, Machine, Station, Verdict};
 
@@ -106,8 +106,8 @@ fn runs_in_turn(rom: &[u16], pairs: usize, boxes: usize) {
     row.print(native, proved, |a, b| a == b);
 }
 
-/// Single steps, each with its range test. The proved step is called on a copy
-/// of the record in C's layout.
+/// Single steps, each with its range test. The proved step is called on a
+/// record in C's layout, as a host keeps it.
 fn single_steps(rom: &[u16], pairs: usize) {
     const STEPS: u32 = 10_000;
     let row = Row { name: "single steps, blinking", units: STEPS.into(), pairs };
@@ -121,15 +121,15 @@ fn single_steps(rom: &[u16], pairs: usize) {
         },
     };
     let proved = Side {
-        lent: proved::reset(),
-        refill: |machine| *machine = proved::reset(),
-        call: |machine: &mut Machine| {
+        lent: LentMachine::from(&proved::reset()),
+        refill: |lent| *lent = LentMachine::from(&proved::reset()),
+        call: |lent: &mut LentMachine| {
             for _ in 0..STEPS {
-                black_box(proved::step(black_box(rom), machine, black_box(&INPUT)));
+                black_box(proved::step_lent(black_box(rom), lent, black_box(&INPUT)));
             }
         },
     };
-    row.print(native, proved, |a, b| a == b);
+    row.print(native, proved, |a, b| *a == Machine::from(b));
 }
 
 /// The check of a ROM that passes. It is lent nothing that it writes.

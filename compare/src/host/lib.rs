@@ -5,10 +5,12 @@ mod layout;
 mod structs;
 
 use reference::{Input, Machine};
-use structs::{LentInput, LentMachine};
+use structs::LentInput;
 
 pub use layout::layout;
-pub use structs::{DecodedRow, EncodedRow, OutputReply, ReadReply, RunReply, VerdictReply};
+pub use structs::{
+    DecodedRow, EncodedRow, LentMachine, OutputReply, ReadReply, RunReply, VerdictReply,
+};
 
 extern "C" {
     fn pollwezen_reset() -> LentMachine;
@@ -64,25 +66,30 @@ extern "C" {
 /// The proved reset.
 pub fn reset() -> Machine {
     // SAFETY: no argument.
-    machine(&unsafe { pollwezen_reset() })
+    Machine::from(&unsafe { pollwezen_reset() })
 }
 
 /// The proved step.
 pub fn step(rom: &[u16], lent: &mut Machine, input: &Input) -> u8 {
-    let mut held = record(lent);
-    // SAFETY: the slice gives its own length, and `held` is nobody else's.
-    let number = unsafe { pollwezen_step(rom.as_ptr(), rom.len(), &mut held, inputs(input)) };
-    *lent = machine(&held);
+    let mut held = LentMachine::from(&*lent);
+    let number = step_lent(rom, &mut held, input);
+    *lent = Machine::from(&held);
     number
+}
+
+/// The proved step on a record in C's layout, as a host keeps it.
+pub fn step_lent(rom: &[u16], lent: &mut LentMachine, input: &Input) -> u8 {
+    // SAFETY: the slice gives its own length, and `lent` is nobody else's.
+    unsafe { pollwezen_step(rom.as_ptr(), rom.len(), lent, inputs(input)) }
 }
 
 /// The proved run.
 pub fn run(rom: &[u16], lent: &mut Machine, input: &Input, budget: u32) -> RunReply {
-    let mut held = record(lent);
-    // SAFETY: as in `step`.
+    let mut held = LentMachine::from(&*lent);
+    // SAFETY: as in `step_lent`.
     let report =
         unsafe { pollwezen_run(rom.as_ptr(), rom.len(), &mut held, inputs(input), budget) };
-    *lent = machine(&held);
+    *lent = Machine::from(&held);
     report
 }
 
@@ -144,25 +151,29 @@ pub fn transcript(file: &[u8], out: &mut [u8]) -> OutputReply {
     unsafe { pollwezen_transcript(file.as_ptr(), file.len(), out.as_mut_ptr(), out.len()) }
 }
 
-fn record(from: &Machine) -> LentMachine {
-    LentMachine {
-        cells: from.cells,
-        pc: from.pc,
-        stack: from.stack,
-        levels: from.levels,
-        skip: from.skip,
-        standby: from.standby,
+impl From<&Machine> for LentMachine {
+    fn from(from: &Machine) -> LentMachine {
+        LentMachine {
+            cells: from.cells,
+            pc: from.pc,
+            stack: from.stack,
+            levels: from.levels,
+            skip: from.skip,
+            standby: from.standby,
+        }
     }
 }
 
-fn machine(from: &LentMachine) -> Machine {
-    Machine {
-        cells: from.cells,
-        pc: from.pc,
-        stack: from.stack,
-        levels: from.levels,
-        skip: from.skip,
-        standby: from.standby,
+impl From<&LentMachine> for Machine {
+    fn from(from: &LentMachine) -> Machine {
+        Machine {
+            cells: from.cells,
+            pc: from.pc,
+            stack: from.stack,
+            levels: from.levels,
+            skip: from.skip,
+            standby: from.standby,
+        }
     }
 }
 
