@@ -1,13 +1,13 @@
 // Which depths some of many entries hold: a table with a place for each.
 ghost use mathlib.Core.Path.{_≡_};
 ghost use Rattle.sheet.specs.Depths.{withDepths, sharesAny};
-use crate::entry::reached;
+use crate::entry::is_reached;
 
 // The depths of one entry more.
 pub fn with_depths(most: u8, table: [bool; 6], entry: u8) -> [bool; 6]
     ensures { λ r. ⌜ r ≡ withDepths most table entry ⌝ }
 {
-    if !reached(most, entry) {
+    if !is_reached(most, entry) {
         return table;
     }
     let at = entry as usize;

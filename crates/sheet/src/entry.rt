@@ -16,36 +16,36 @@ pub fn entry_at(sheet: &[u8], word: u16) -> u8
     sheet[at]
 }
 
-pub fn reached(most: u8, entry: u8) -> bool
+pub fn is_reached(most: u8, entry: u8) -> bool
     ensures { λ r. ⌜ r ≡ reached most entry ⌝ }
 {
     entry <= most
 }
 
-pub fn proper(most: u8, entry: u8) -> bool
+pub fn is_proper(most: u8, entry: u8) -> bool
     ensures { λ r. ⌜ r ≡ proper most entry ⌝ }
 {
-    if reached(most, entry) {
+    if is_reached(most, entry) {
         return true;
     }
     entry == UNREACHED
 }
 
 // Whether so many calls may be open at a word.
-pub fn holds(most: u8, entry: u8, depth: u8) -> bool
+pub fn has_depth(most: u8, entry: u8, depth: u8) -> bool
     ensures { λ r. ⌜ r ≡ holds most entry depth ⌝ }
 {
-    if !reached(most, entry) {
+    if !is_reached(most, entry) {
         return false;
     }
     entry == depth
 }
 
 // Whether an entry is reached and holds every depth of another.
-pub fn covers(most: u8, entry: u8, other: u8) -> bool
+pub fn has_all_of(most: u8, entry: u8, other: u8) -> bool
     ensures { λ r. ⌜ r ≡ covers most entry other ⌝ }
 {
-    if !reached(most, entry) {
+    if !is_reached(most, entry) {
         return false;
     }
     entry == other

@@ -9,7 +9,7 @@ ghost use Rattle.station_file.specs.Station.{inputByte, entryField, inpu
 ghost use Rattle.station_file.specs.Places.{scanned, ScanFits, Passed, RecordGood};
 use crate::FileRefusal;
 use crate::Test;
-use sheet::proper;
+use sheet::is_proper;
 
 // The highest level of a sheet in a file.
 const MOST_LEVEL: u8 = 5;
@@ -35,7 +35,7 @@ pub fn entries(bytes: &[u8], at: usize, count: usize) -> Test
         if bytes.len() <= next {
             return Test::Refused(FileRefusal::Early);
         }
-        if !proper(MOST_LEVEL, bytes[next]) {
+        if !is_proper(MOST_LEVEL, bytes[next]) {
             return Test::Refused(FileRefusal::Entry);
         }
         index += 1;

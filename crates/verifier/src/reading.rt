@@ -8,8 +8,8 @@ ghost use Rattle.clearance.specs.Rules.{isReturnSkip, flowAt, met};
 ghost use Rattle.verifier.specs.ReturnDepths.{ReturnDepths};
 use crate::LEVELS;
 use control::Flow;
-use sheet::covers;
 use sheet::entry_at;
+use sheet::has_all_of;
 use sheet::with_depths;
 
 // The flow of a word; past the ROM there is no instruction.
@@ -24,13 +24,13 @@ pub fn flow_at(rom: &[u16], word: u16) -> Flow
 }
 
 // Whether a word that a rule names lies in the ROM and its entry covers what is asked.
-pub fn met(rom: &[u16], sheet: &[u8], word: u16, asked: u8) -> bool
+pub fn is_met(rom: &[u16], sheet: &[u8], word: u16, asked: u8) -> bool
     ensures { λ r. ⌜ r ≡ met upd17132 (now (rom .entry)) (now (sheet .entry)) (record { word = word; entry = asked }) ⌝ }
 {
     if rom.len() <= word as usize {
         return false;
     }
-    covers(LEVELS, entry_at(sheet, word), asked)
+    has_all_of(LEVELS, entry_at(sheet, word), asked)
 }
 
 // RETSK's word.

@@ -7,15 +7,15 @@ ghost use Rattle.control.specs.Control.{nextOf};
 ghost use Rattle.clearance.specs.Rules.{allMet, rule1, rule2, rule3, rule4, rule5, rule6, ruleOf};
 ghost use Rattle.verifier.specs.ReturnDepths.{ReturnDepths};
 use crate::LEVELS;
-use crate::reading::met;
+use crate::reading::is_met;
 use control::Flow;
 use control::next;
 use sheet::at_least;
 use sheet::at_most;
-use sheet::holds;
-use sheet::proper;
+use sheet::has_depth;
+use sheet::is_proper;
+use sheet::is_reached;
 use sheet::raised;
-use sheet::reached;
 use sheet::shares_any;
 
 // Rule 1, of word 0 only.
@@ -25,14 +25,14 @@ fn rule_1(word: u16, entry: u8) -> bool
     if word != 0 {
         return true;
     }
-    holds(LEVELS, entry, 0)
+    has_depth(LEVELS, entry, 0)
 }
 
 // Rule 2.
 fn rule_2(entry: u8) -> bool
     ensures { λ r. ⌜ r ≡ rule2 upd17132 entry ⌝ }
 {
-    proper(LEVELS, entry)
+    is_proper(LEVELS, entry)
 }
 
 // MOVT.
@@ -66,10 +66,10 @@ fn rule_3(rom: &[u16], flow: Flow, entry: u8) -> bool
 fn skip_met(rom: &[u16], sheet: &[u8], after: u16, entry: u8) -> bool
     ensures { λ r. ⌜ r ≡ allMet upd17132 (now (rom .entry)) (now (sheet .entry)) (record { word = after; entry = entry } ∷ record { word = nextOf upd17132 after; entry = entry } ∷ []) ⌝ }
 {
-    if !met(rom, sheet, after, entry) {
+    if !is_met(rom, sheet, after, entry) {
         return false;
     }
-    met(rom, sheet, next(after), entry)
+    is_met(rom, sheet, next(after), entry)
 }
 
 // Rule 4.
@@ -78,13 +78,13 @@ fn rule_4(rom: &[u16], sheet: &[u8], word: u16, flow: Flow, entry: u8) -> bool
 {
     let after = next(word);
     match flow {
-        Flow::Onward => met(rom, sheet, after, entry),
+        Flow::Onward => is_met(rom, sheet, after, entry),
         Flow::Skips => skip_met(rom, sheet, after, entry),
-        Flow::Branches(to) => met(rom, sheet, to, entry),
-        Flow::Calls(_) => met(rom, sheet, after, entry),
+        Flow::Branches(to) => is_met(rom, sheet, to, entry),
+        Flow::Calls(_) => is_met(rom, sheet, after, entry),
         Flow::Returns(_) => true,
-        Flow::ReadsTable => met(rom, sheet, after, entry),
-        Flow::StandsBy => met(rom, sheet, after, entry),
+        Flow::ReadsTable => is_met(rom, sheet, after, entry),
+        Flow::StandsBy => is_met(rom, sheet, after, entry),
         Flow::ByAr(_) => true,
         Flow::Refused(_) => true,
     }
@@ -99,14 +99,14 @@ fn call_allowed(rom: &[u16], sheet: &[u8], depths: [bool; 6], word: u16, to: u16
         return false;
     }
     let higher = raised(entry);
-    if !met(rom, sheet, to, higher) {
+    if !is_met(rom, sheet, to, higher) {
         return false;
     }
     if !shares_any(depths, higher) {
         return true;
     }
     let after = next(word);
-    met(rom, sheet, next(after), entry)
+    is_met(rom, sheet, next(after), entry)
 }
 
 // Rule 5.
@@ -149,7 +149,7 @@ pub fn rule_holds(
     if rule == 2 {
         return rule_2(entry);
     }
-    if !reached(LEVELS, entry) {
+    if !is_reached(LEVELS, entry) {
         return true;
     }
     match rule {

@@ -26,7 +26,7 @@ returns c =
 returns-2 : tie.Need-returns-2 Inv-loop μ-loop
 returns-2 c =
     let l = c .before .before .before .before .before .loop in
-    (bad-at entryByte _ _ _ _ _ (l .inv .1) (c .before .before .before .before .loop-test .taken) (c .before .before .before .if1 .left) (sym (c .before .proper .ensures) ∙ not-true _ (c .if2 .taken)) (l .inv .3), tt)
+    (bad-at entryByte _ _ _ _ _ (l .inv .1) (c .before .before .before .before .loop-test .taken) (c .before .before .before .if1 .left) (sym (c .before .is-proper .ensures) ∙ not-true _ (c .if2 .taken)) (l .inv .3), tt)
 
 loop-again : tie.Need-loop-again Inv-loop μ-loop
 loop-again c =
@@ -34,7 +34,7 @@ loop-again c =
       search needs,
       omega arith,
       search needs,
-      more-at entryByte _ _ _ _ _ (l .inv .1) (c .before .before .before .before .loop-test .taken) (c .before .before .before .if1 .left) (sym (c .before .proper .ensures) ∙ not-false _ (c .if2 .left)) (l .inv .3),
+      more-at entryByte _ _ _ _ _ (l .inv .1) (c .before .before .before .before .loop-test .taken) (c .before .before .before .if1 .left) (sym (c .before .is-proper .ensures) ∙ not-false _ (c .if2 .left)) (l .inv .3),
     )
 
 returns-3 : tie.Need-returns-3 Inv-loop μ-loop

@@ -16,7 +16,7 @@ returns-2 : tie.Need-returns-2
 returns-2 c =
     let free = sym (c .before .before .before .before .at-most .ensures) ∙ not-false _ (c .before .before .before .if1 .left) in
     let higher = c .before .before .raised .ensures ∙ raised-byte 5 (lit< tt) _ free (lit< tt) in
-    simp (free, sym higher, sym (c .before .met .ensures) ∙ not-true _ (c .if2 .taken))
+    simp (free, sym higher, sym (c .before .is-met .ensures) ∙ not-true _ (c .if2 .taken))
 
 returns-3 : tie.Need-returns-3
 unfolding ReturnDepths
@@ -27,7 +27,7 @@ returns-3 c =
     simp (
       free,
       sym higher,
-      sym (c .before .before .before .met .ensures) ∙ not-false _ (c .before .before .if2 .left),
+      sym (c .before .before .before .is-met .ensures) ∙ not-false _ (c .before .before .if2 .left),
       sym (c .before .before .before .before .before .before .before .before .before .pre _ there) ∙ sym (c .before .shares-any .ensures) ∙ not-true _ (c .if3 .taken),
     )
 
@@ -40,11 +40,11 @@ returns-4 c =
     simp (
       free,
       sym higher,
-      sym (c .before .before .before .before .before .before .met .ensures) ∙ not-false _ (c .before .before .before .before .before .if2 .left),
+      sym (c .before .before .before .before .before .before .is-met .ensures) ∙ not-false _ (c .before .before .before .before .before .if2 .left),
       sym (c .before .before .before .before .before .before .before .before .before .before .before .before .pre _ there) ∙ sym (c .before .before .before .before .shares-any .ensures) ∙ not-false _ (c .before .before .before .if3 .left),
       sym (c .before .before .next .ensures),
       sym (c .before .next2 .ensures),
-      sym (c .met2 .ensures),
+      sym (c .is-met2 .ensures),
       and-true,
     )
 

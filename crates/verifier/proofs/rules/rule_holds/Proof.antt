@@ -16,23 +16,23 @@ unfolding ruleOf
 returns-2 c = rw (c .before .if2 .taken) (c .rule-2 .ensures)
 
 returns-3 : tie.Need-returns-3
-returns-3 c = sym (unreached-holds _ _ _ _ _ _ _ (sym (c .before .reached .ensures) ∙ not-true _ (c .if3 .taken)) (search needs) (search needs))
+returns-3 c = sym (unreached-holds _ _ _ _ _ _ _ (sym (c .before .is-reached .ensures) ∙ not-true _ (c .if3 .taken)) (search needs) (search needs))
 
 returns-4 : tie.Need-returns-4
 unfolding ruleOf
-returns-4 c = rw (c .before .match .keys1, sym (c .before .before .before .reached .ensures) ∙ not-false _ (c .before .before .if3 .left)) (c .rule-3 .ensures)
+returns-4 c = rw (c .before .match .keys1, sym (c .before .before .before .is-reached .ensures) ∙ not-false _ (c .before .before .if3 .left)) (c .rule-3 .ensures)
 
 returns-5 : tie.Need-returns-5
 unfolding ruleOf
-returns-5 c = rw (c .before .match .keys2, sym (c .before .before .before .reached .ensures) ∙ not-false _ (c .before .before .if3 .left)) (c .rule-4 .ensures)
+returns-5 c = rw (c .before .match .keys2, sym (c .before .before .before .is-reached .ensures) ∙ not-false _ (c .before .before .if3 .left)) (c .rule-4 .ensures)
 
 returns-6 : tie.Need-returns-6
 unfolding ruleOf
-returns-6 c = rw (c .before .match .keys3, sym (c .before .before .before .reached .ensures) ∙ not-false _ (c .before .before .if3 .left)) (c .rule-5 .ensures)
+returns-6 c = rw (c .before .match .keys3, sym (c .before .before .before .is-reached .ensures) ∙ not-false _ (c .before .before .if3 .left)) (c .rule-5 .ensures)
 
 returns-7 : tie.Need-returns-7
 unfolding ruleOf
-returns-7 c = let six : c .before .before .before .before .before .before .before .before .args .rule ≡ 6 = omega arith in rw (six, sym (c .before .before .before .reached .ensures) ∙ not-false _ (c .before .before .if3 .left)) (c .rule-6 .ensures)
+returns-7 c = let six : c .before .before .before .before .before .before .before .before .args .rule ≡ 6 = omega arith in rw (six, sym (c .before .before .before .is-reached .ensures) ∙ not-false _ (c .before .before .if3 .left)) (c .rule-6 .ensures)
 
 pub rule-holds-spec : {M : Type 1} → statement M
 rule-holds-spec =

@@ -1,0 +1,19 @@
+use mathlib.Core.Path.{_∙_, ap}
+use Prim.Native.Nat.{ℕ}
+use borrow.Author.Tests.{lt-ltb, le-ltb}
+use Rattle.sheet.specs.Entry.{covers}
+use Rattle.clearance.specs.Rules.{met}
+use borrow.Author.Needs.{needs}
+use Rattle.verifier.proofs.reading.is_met.Statement.{statement}
+use Rattle.verifier.proofs.reading.is_met.Tie as tie
+
+returns : tie.Need-returns
+unfolding met
+returns c = simp (le-ltb _ _ (c .if1 .taken))
+
+returns-2 : tie.Need-returns-2
+unfolding met
+returns-2 c = rw (lt-ltb _ _ (c .before .before .if1 .left)) (c .has-all-of .ensures ∙ ap (λ (e : ℕ). covers 5 e (c .before .before .before .before .before .args .asked)) (c .before .entry-at .ensures))
+
+pub is-met-spec : {M : Type 1} → statement M
+is-met-spec = tie.close (tie.spec returns (λ c κs. search needs) (λ c κs. search needs) returns-2)
