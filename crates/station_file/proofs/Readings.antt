@@ -10,11 +10,7 @@ use Rattle.station_file.specs.Reading.{Reading, got, refused, andThen, t
 pub not-got : {A : Type 0} (n : ℕ) (v : A) (rest : List ℕ) → refused n ≡ got v rest → ⊥
 not-got n v rest e = let z : _≡_ {A = ℕ} 0 1 = cc in omega arith
 
--- a step that answers, and the next
-pub then-got : {A B : Type 0} (r : Reading A) (f : A → List ℕ → Reading B) (v : A) (rest : List ℕ) (out : Reading B)
-    → r ≡ got v rest → f v rest ≡ out → andThen r f ≡ out
-then-got r f v rest out e h = ap (λ (x : Reading _). andThen x f) e ∙ h
-
+-- a step that answered, and the next
 pub record Step {A B : Type 0} (r : Reading A) (f : A → List ℕ → Reading B) (out : Reading B) : Type 0 where
   pub value : A
   pub left : List ℕ
@@ -26,10 +22,7 @@ pub got-then : {A B : Type 0} (r : Reading A) (f : A → List ℕ → Reading B)
 got-then (got u left) f v rest e = record { value = u; left = left; first = refl; then = e }
 got-then (refused n) f v rest e = absurd (not-got n v rest e)
 
--- a value that passes its test, and one that passed
-pub tested-got : (ok : ℕ → Bool) (n : ℕ) (r : Reading ℕ) (v : ℕ) (rest : List ℕ) → r ≡ got v rest → ok v ≡ true → tested ok n r ≡ got v rest
-tested-got ok n r v rest e t = ap (tested ok n) e ∙ ap (λ (b : Bool). cond b (got v rest) (refused n)) t
-
+-- a value that passed its test
 passed-from : (b : Bool) (u : ℕ) (left : List ℕ) (n v : ℕ) (rest : List ℕ) → cond b (got u left) (refused n) ≡ got v rest
     → (got u left ≡ got v rest) × (b ≡ true)
 passed-from true u left n v rest e = (e, refl)
