@@ -11,6 +11,7 @@ use lib.ListN.{getD, length}
 use Rattle.isa.specs.Answers.{Decoding, is, refused as refusedWord}
 use Rattle.isa.specs.Decode.{decodeOf}
 use Rattle.isa.specs.declared.Instruction.{Instruction}
+use Rattle.laws.proofs.Booleans.{either}
 use Rattle.laws.proofs.Wrap.{wrap-below}
 use Rattle.memory.specs.Chip.{Chip}
 use Rattle.memory.specs.Range.{cellsInRange}
@@ -112,9 +113,9 @@ module _ (chip : Chip) (small : chip .levels ≤ places) where
   parts : (m : Machine) → R m → (cellsInRange chip (cellsOf m) ≡ true) × Fine chip small (m .control)
   parts m r = let p = machine-parts chip m r in (p .0, fine chip small (m .control) (p .1 .0) (p .1 .1))
 
-  one-of : (b : Bool) (x y : Step) → R (x .machine) → R (y .machine) → R ((cond b x y) .machine)
-  one-of true x y p q = p
-  one-of false x y p q = q
+  -- the record that a step leaves is in range
+  abbrev Ranged : Step → Type 0
+  Ranged s = R (s .machine)
 
   left : (m after : Machine) (o : Reply) → R m → R after → R ((unlessRefused m after o) .machine)
   left m after done p q = q
@@ -130,9 +131,9 @@ module _ (chip : Chip) (small : chip .levels ≤ places) where
         let after : Machine = machineOf (writtenOf chip rom input i m) (t .control) in
         let ws = writesOf chip (dataOf m input) i (topOf (m .control)) (getD rom (arOf (cellsOf m)) 0) in
         let past : Bool = pastTable rom (arOf (cellsOf m)) (flowOf i) in
-        one-of (eqb (t .refusal) 0)
+        either Ranged (eqb (t .refusal) 0)
         (cond past (refusedStep 8 m) (completedStep after)) (refusedStep (t .refusal) m)
-        (one-of past (refusedStep 8 m) (completedStep after) r
+        (either Ranged past (refusedStep 8 m) (completedStep after) r
         (whole (writtenOf chip rom input i m) (t .control) (ranged chip ws (cellsOf m) (p .0))
         (shifted (m .control) (p .1) (flowOf i) (holdsOf chip (dataOf m input) i) (arOf (cellsOf m)) (fits (cellsOf m) (p .0)))))
         r
@@ -152,8 +153,8 @@ module _ (chip : Chip) (small : chip .levels ≤ places) where
         let word = decodeOf (getD rom (m .control .pc) 0) in
         let d = decodedOf chip rom input m word in
         let skip : Bool = isMarked (m .control .skip) in
-        one-of (leb (length rom) (m .control .pc)) (refusedStep 2 m) (cond skip (passOver chip rom input m) d) r
-        (one-of skip (passOver chip rom input m) d (over m r) (decodes m word r))
+        either Ranged (leb (length rom) (m .control .pc)) (refusedStep 2 m) (cond skip (passOver chip rom input m) d) r
+        (either Ranged skip (passOver chip rom input m) d (over m r) (decodes m word r))
 
     pub advances : (m : Machine) → R m → R ((advanceOf chip rom input m) .machine)
     unfolding advanceOf
@@ -161,9 +162,9 @@ module _ (chip : Chip) (small : chip .levels ≤ places) where
         let p = parts m r in
         let w : R (woken m) = whole (cellsOf m) _ (p .0) (with-standby chip small 0 (m .control) (lit≤ tt) (p .1)) in
         let s = fetchOf chip rom input (woken m) in
-        one-of (isStanding m && eqb (input .release) 0) (standingStep m)
+        either Ranged (isStanding m && eqb (input .release) 0) (standingStep m)
         (unlessRefused m (s .machine) (s .reply)) r (left m (s .machine) (s .reply) r (fetches (woken m) w))
 
     pub steps : (m : Machine) → R m → R ((stepOf chip rom input m) .machine)
     unfolding stepOf
-    steps m r = one-of (allInRange chip rom m input) (advanceOf chip rom input m) (refusedStep 1 m) (advances m r) r
+    steps m r = either Ranged (allInRange chip rom m input) (advanceOf chip rom input m) (refusedStep 1 m) (advances m r) r
