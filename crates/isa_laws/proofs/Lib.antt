@@ -1,4 +1,4 @@
-pub mod Faithful
+pub mod DecodingsApart
 pub mod Back
 pub mod Forth
 pub mod RoundTrip

@@ -1,2 +1,2 @@
-pub mod Faithful
+pub mod DecodingsApart
 pub mod RoundTrip

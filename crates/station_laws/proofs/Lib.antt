@@ -4,4 +4,4 @@ pub mod ReadWrite
 pub mod Sizes
 pub mod Checkable
 pub mod Longer
-pub mod Faithful
+pub mod FilesApart

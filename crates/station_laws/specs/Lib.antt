@@ -2,5 +2,5 @@ pub mod RoundTrip
 pub mod ReadWrite
 pub mod Sizes
 pub mod Checkable
-pub mod Faithful
+pub mod FilesApart
 pub mod Longer

@@ -3,6 +3,6 @@ pub mod Steps
 pub mod Splits
 pub mod Runs
 pub mod Computed
-pub mod Faithful
+pub mod AnswersApart
 pub mod Written
 pub mod Depends

@@ -4,4 +4,4 @@ pub mod RunLaws
 pub mod ReadLaw
 pub mod WrittenCells
 pub mod Cases
-pub mod Faithful
+pub mod AnswersApart

@@ -6,6 +6,6 @@ use Rattle.isa.specs.declared.Decoded.{Decoded}
 use Rattle.isa.specs.declared.Encoded.{Encoded}
 
 -- what stands for each answer loses nothing
-pub record Faithful : Type 0 where
+pub record DecodingsApart : Type 0 where
   pub decoded : (a b : Decoded) → decodingOf a ≡ decodingOf b → a ≡ b
   pub encoded : (a b : Encoded) → encodingOf a ≡ encodingOf b → a ≡ b

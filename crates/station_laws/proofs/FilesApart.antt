@@ -10,7 +10,7 @@ use Rattle.station_file.specs.declared.Loaded.the-variants as loaded
 use Rattle.station_file.specs.declared.Written.{Written}
 use Rattle.station_file.specs.declared.Written.the-variants as written
 use Rattle.station_file.proofs.FileNumbers.{numbered, numbered-again}
-use Rattle.station_laws.specs.Faithful.{Faithful}
+use Rattle.station_laws.specs.FilesApart.{FilesApart}
 
 loadedFrom : read.Reply → Loaded
 loadedFrom (read.station words entries records) = loaded.Station words entries records
@@ -30,8 +30,8 @@ unfolding writtenFrom
 written-again (written.Bytes n) = refl
 written-again (written.Refused f) = ap written.Refused (numbered-again f)
 
-pub faithful : Faithful
-faithful = record {
+pub files-apart : FilesApart
+files-apart = record {
   reads = LeftInverse·injective loadedFrom readReply loaded-again;
   writes = LeftInverse·injective writtenFrom writeReply written-again;
 }

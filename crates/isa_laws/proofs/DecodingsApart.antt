@@ -4,7 +4,7 @@ use mathlib.Core.Path.{_≡_, refl, ap}
 use Prim.Native.Nat.{ℕ}
 use native.Mathlib.Omega.{arith}
 use Rattle.isa.specs.Answers.{Encoding, decodingOf, encodingOf}
-use Rattle.isa_laws.specs.Faithful.{Faithful}
+use Rattle.isa_laws.specs.DecodingsApart.{DecodingsApart}
 use Rattle.isa.specs.declared.Decoded.{Decoded}
 use Rattle.isa.specs.declared.Decoded.the-variants as decoded
 use Rattle.isa.specs.declared.Encoded.{Encoded}
@@ -22,5 +22,5 @@ encodings (Word v) TooLarge e = absurd (let z : _≡_ {A = ℕ} 0 10 = ap (λ (x
 encodings TooLarge (Word w) e = absurd (let z : _≡_ {A = ℕ} 10 0 = ap (λ (x : Encoding). x .refusal) e in omega arith)
 encodings TooLarge TooLarge e = refl
 
-pub faithful : Faithful
-faithful = record { decoded = decodings; encoded = encodings }
+pub decodings-apart : DecodingsApart
+decodings-apart = record { decoded = decodings; encoded = encodings }

@@ -12,7 +12,7 @@ use Rattle.cpu.specs.Answers.{replyOf, replyNumber, endOf}
 use Rattle.cpu.specs.declared.Answer.{Answer}
 use Rattle.cpu.specs.declared.Answer.the-variants.{Done, Standby, Refused}
 use Rattle.cpu.specs.declared.End.the-variants as end
-use Rattle.step_laws.specs.Faithful.{Faithful}
+use Rattle.step_laws.specs.AnswersApart.{AnswersApart}
 
 -- what stands for 0, then a refusal for each number, then what stands for every other
 abbrev found : {A : Type 0} → A → (Refusal → A) → A → ℕ → A
@@ -42,8 +42,8 @@ end-found : LeftInverse (found end.Completed end.Refused end.Completed) endOf
 end-found end.Completed = refl
 end-found (end.Refused r) = refusal-found end.Completed end.Completed end.Refused r
 
-pub faithful : Faithful
-faithful = record {
+pub answers-apart : AnswersApart
+answers-apart = record {
   replies = LeftInverse·injective (found Done Refused Standby) number reply-found;
   ends = LeftInverse·injective (found end.Completed end.Refused end.Completed) endOf end-found;
 }

@@ -6,6 +6,6 @@ use Rattle.station_file.specs.declared.Loaded.{Loaded}
 use Rattle.station_file.specs.declared.Written.{Written}
 
 -- what stands for each answer loses nothing
-pub record Faithful : Type 0 where
+pub record FilesApart : Type 0 where
   pub reads : (a b : Loaded) → readReply a ≡ readReply b → a ≡ b
   pub writes : (a b : Written) → writeReply a ≡ writeReply b → a ≡ b
