@@ -127,7 +127,7 @@ uint8_t pollwezen_step(const uint16_t *rom, size_t words, pollwezen_machine *mac
 /* A counted run on the lent record, of 0 to 65,535 steps. It ends at a refusal, in standby or at the budget. A refused run
  * keeps the state of its completed steps. */
 pollwezen_run_reply pollwezen_run(const uint16_t *rom, size_t words, pollwezen_machine *machine, pollwezen_input input,
-                               uint32_t budget);
+                                  uint32_t budget);
 
 /* The check of a ROM and its sheet, one level a word. Refusals: 1 for the ROM's length, 9 for the sheet's. */
 pollwezen_verdict_reply pollwezen_verify(const uint16_t *rom, size_t words, const uint8_t *sheet, size_t entries);
@@ -142,11 +142,11 @@ pollwezen_encoded_row pollwezen_encode(uint8_t row, uint8_t first, uint8_t secon
 /* Reads a station file to the front of three lent buffers; a sheet of no entries is none. An input record is eleven bytes: five
  * pins, five directions, release. Refusals: 20 to 25, the last where a buffer is too short. A refused file writes nothing. */
 pollwezen_read_reply pollwezen_read(const uint8_t *file, size_t bytes, uint16_t *rom, size_t rom_room, uint8_t *sheet,
-                                size_t sheet_room, uint8_t *inputs, size_t inputs_room);
+                                    size_t sheet_room, uint8_t *inputs, size_t inputs_room);
 
 /* Writes a station's file to the front of the lent buffer. Refusals: 22, 23 and 25. A refused station writes nothing. */
 pollwezen_output_reply pollwezen_write(const uint16_t *rom, size_t words, const uint8_t *sheet, size_t entries,
-                                 const uint8_t *inputs, size_t input_bytes, uint8_t *out, size_t room);
+                                       const uint8_t *inputs, size_t input_bytes, uint8_t *out, size_t room);
 
 /* Puts what the program `station` prints for a file to the front of the lent buffer, with no closing 0. A bad file has a text
  * too, so the one refusal is 25, and then nothing is written. A buffer of POLLWEZEN_TEXT_BYTES, 100,000, is enough for every
