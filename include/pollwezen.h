@@ -1,7 +1,7 @@
 /* Pollwezen: the uPD17132 for a host program in C. Link libpollwezen.a, which `rt staticlib pollwezen` writes.
- * The contracts are in crates/pollwezen/src/lib.rt; the definitions that they cite in the folders specs of crates/machine and
- * crates/cpu (record, step, run), crates/verifier and crates/clearance (the check), crates/listing (words), crates/station_file,
- * crates/transcript and crates/pollwezen.
+ * The contracts are in crates/pollwezen/src/lib.rt; the definitions that they cite in the folders specs of crates/memory,
+ * crates/machine and crates/cpu (record, step, run), crates/verifier and crates/clearance (the check), crates/listing (words),
+ * crates/station_file, crates/transcript and crates/pollwezen.
  * The caller keeps what C asks of any call: pointers (not NULL, even where the length is 0) to as many elements as said, and a
  * lent record or buffer that no other argument overlaps. Whatever stands in them is answered or refused. No buffer is written
  * past its length, and none is kept. */

@@ -1,4 +1,4 @@
-// The step, in document 01's order of refusals.
+// A step of a machine in range, from refusal 2 on; refusal 1 and staying in standby are told in running.rt.
 ghost use mathlib.Core.Path.{_≡_};
 ghost use mathlib.Core.List.{List};
 ghost use mathlib.Core.Bool.{false, _&&_};

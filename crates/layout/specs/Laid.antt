@@ -15,8 +15,8 @@ use Rattle.pollwezen.specs.declared.VerdictReply.{VerdictReply}
 use Rattle.layout.specs.declared.Laid.{Laid}
 
 -- the first cell and the last differ from the others
-abbrev pub machineOf : ℕ → ℕ → Machine
-machineOf byte word =
+abbrev pub filledMachine : ℕ → ℕ → Machine
+filledMachine byte word =
     record {
       memory = record { cells = set (set (replicate 128 (byte - 1)) 0 (byte - 2)) 127 (byte - 3) };
       control =
@@ -29,41 +29,41 @@ machineOf byte word =
           };
     }
 
-abbrev pub inputOf : ℕ → Input
-inputOf byte =
+abbrev pub filledInput : ℕ → Input
+filledInput byte =
     record {
       pins = (byte - 1) ∷ (byte - 2) ∷ (byte - 3) ∷ (byte - 4) ∷ (byte - 5) ∷ [];
       directions = (byte - 6) ∷ (byte - 7) ∷ (byte - 8) ∷ (byte - 9) ∷ (byte - 10) ∷ [];
       release = byte - 11;
     }
 
-abbrev pub runReplyOf : ℕ → ℕ → RunReply
-runReplyOf byte long = record { steps = long - 1; number = byte - 2 }
+abbrev pub filledRunReply : ℕ → ℕ → RunReply
+filledRunReply byte long = record { steps = long - 1; number = byte - 2 }
 
-abbrev pub verdictReplyOf : ℕ → ℕ → VerdictReply
-verdictReplyOf byte word = record { number = byte - 1; word = word - 2; rule = byte - 3 }
+abbrev pub filledVerdictReply : ℕ → ℕ → VerdictReply
+filledVerdictReply byte word = record { number = byte - 1; word = word - 2; rule = byte - 3 }
 
-abbrev pub readReplyOf : ℕ → ℕ → ReadReply
-readReplyOf byte size = record { number = byte - 1; words = size - 2; entries = size - 3; records = size - 4 }
+abbrev pub filledReadReply : ℕ → ℕ → ReadReply
+filledReadReply byte size = record { number = byte - 1; words = size - 2; entries = size - 3; records = size - 4 }
 
-abbrev pub outputReplyOf : ℕ → ℕ → OutputReply
-outputReplyOf byte size = record { number = byte - 1; length = size - 2 }
+abbrev pub filledOutputReply : ℕ → ℕ → OutputReply
+filledOutputReply byte size = record { number = byte - 1; length = size - 2 }
 
-abbrev pub decodedRowOf : ℕ → ℕ → DecodedRow
-decodedRowOf byte word = record { number = byte - 1; row = byte - 2; first = byte - 3; second = byte - 4; addr = word - 5 }
+abbrev pub filledDecodedRow : ℕ → ℕ → DecodedRow
+filledDecodedRow byte word = record { number = byte - 1; row = byte - 2; first = byte - 3; second = byte - 4; addr = word - 5 }
 
-abbrev pub encodedRowOf : ℕ → ℕ → EncodedRow
-encodedRowOf byte word = record { number = byte - 1; word = word - 2 }
+abbrev pub filledEncodedRow : ℕ → ℕ → EncodedRow
+filledEncodedRow byte word = record { number = byte - 1; word = word - 2 }
 
 unfoldable pub laidOf : Laid
 laidOf =
     record {
-      machines = machineOf 255 65535 ∷ machineOf 127 32767 ∷ [];
-      inputs = inputOf 255 ∷ inputOf 127 ∷ [];
-      runs = runReplyOf 255 4294967295 ∷ runReplyOf 127 2147483647 ∷ [];
-      verdicts = verdictReplyOf 255 65535 ∷ verdictReplyOf 127 32767 ∷ [];
-      reads = readReplyOf 255 18446744073709551615 ∷ readReplyOf 127 9223372036854775807 ∷ [];
-      outputs = outputReplyOf 255 18446744073709551615 ∷ outputReplyOf 127 9223372036854775807 ∷ [];
-      decoded = decodedRowOf 255 65535 ∷ decodedRowOf 127 32767 ∷ [];
-      encoded = encodedRowOf 255 65535 ∷ encodedRowOf 127 32767 ∷ [];
+      machines = filledMachine 255 65535 ∷ filledMachine 127 32767 ∷ [];
+      inputs = filledInput 255 ∷ filledInput 127 ∷ [];
+      runs = filledRunReply 255 4294967295 ∷ filledRunReply 127 2147483647 ∷ [];
+      verdicts = filledVerdictReply 255 65535 ∷ filledVerdictReply 127 32767 ∷ [];
+      reads = filledReadReply 255 18446744073709551615 ∷ filledReadReply 127 9223372036854775807 ∷ [];
+      outputs = filledOutputReply 255 18446744073709551615 ∷ filledOutputReply 127 9223372036854775807 ∷ [];
+      decoded = filledDecodedRow 255 65535 ∷ filledDecodedRow 127 32767 ∷ [];
+      encoded = filledEncodedRow 255 65535 ∷ filledEncodedRow 127 32767 ∷ [];
     }

@@ -2,7 +2,7 @@
 // tests/layout.c and compare/ to find.
 ghost use mathlib.Core.Path.{_≡_};
 ghost use Prim.Native.Nat.{_≤_};
-ghost use Rattle.layout.specs.Laid.{decodedRowOf, encodedRowOf, inputOf, laidOf, machineOf, outputReplyOf, readReplyOf, runReplyOf, verdictReplyOf};
+ghost use Rattle.layout.specs.Laid.{filledDecodedRow, filledEncodedRow, filledInput, laidOf, filledMachine, filledOutputReply, filledReadReply, filledRunReply, filledVerdictReply};
 use listing::DecodedRow;
 use listing::EncodedRow;
 use machine::Control;
@@ -29,7 +29,7 @@ pub struct Laid {
 
 fn machine_with(byte: u8, word: u16) -> Machine
     requires { ⌜ (12 ≤ byte) × (9 ≤ word) ⌝ }
-    ensures { λ r. ⌜ r ≡ machineOf byte word ⌝ }
+    ensures { λ r. ⌜ r ≡ filledMachine byte word ⌝ }
 {
     let mut cells = [byte - 1; 128];
     cells[0] = byte - 2;
@@ -49,7 +49,7 @@ fn machine_with(byte: u8, word: u16) -> Machine
 
 fn input_with(byte: u8) -> Input
     requires { ⌜ 11 ≤ byte ⌝ }
-    ensures { λ r. ⌜ r ≡ inputOf byte ⌝ }
+    ensures { λ r. ⌜ r ≡ filledInput byte ⌝ }
 {
     let pins = [byte - 1, byte - 2, byte - 3, byte - 4, byte - 5];
     let directions = [byte - 6, byte - 7, byte - 8, byte - 9, byte - 10];
@@ -62,7 +62,7 @@ fn input_with(byte: u8) -> Input
 
 fn run_reply_with(byte: u8, long: u32) -> RunReply
     requires { ⌜ (2 ≤ byte) × (1 ≤ long) ⌝ }
-    ensures { λ r. ⌜ r ≡ runReplyOf byte long ⌝ }
+    ensures { λ r. ⌜ r ≡ filledRunReply byte long ⌝ }
 {
     RunReply {
         steps: long - 1,
@@ -72,7 +72,7 @@ fn run_reply_with(byte: u8, long: u32) -> RunReply
 
 fn verdict_reply_with(byte: u8, word: u16) -> VerdictReply
     requires { ⌜ (3 ≤ byte) × (2 ≤ word) ⌝ }
-    ensures { λ r. ⌜ r ≡ verdictReplyOf byte word ⌝ }
+    ensures { λ r. ⌜ r ≡ filledVerdictReply byte word ⌝ }
 {
     VerdictReply {
         number: byte - 1,
@@ -83,7 +83,7 @@ fn verdict_reply_with(byte: u8, word: u16) -> VerdictReply
 
 fn read_reply_with(byte: u8, size: usize) -> ReadReply
     requires { ⌜ (1 ≤ byte) × (4 ≤ size) ⌝ }
-    ensures { λ r. ⌜ r ≡ readReplyOf byte size ⌝ }
+    ensures { λ r. ⌜ r ≡ filledReadReply byte size ⌝ }
 {
     ReadReply {
         number: byte - 1,
@@ -95,7 +95,7 @@ fn read_reply_with(byte: u8, size: usize) -> ReadReply
 
 fn output_reply_with(byte: u8, size: usize) -> OutputReply
     requires { ⌜ (1 ≤ byte) × (2 ≤ size) ⌝ }
-    ensures { λ r. ⌜ r ≡ outputReplyOf byte size ⌝ }
+    ensures { λ r. ⌜ r ≡ filledOutputReply byte size ⌝ }
 {
     OutputReply {
         number: byte - 1,
@@ -105,7 +105,7 @@ fn output_reply_with(byte: u8, size: usize) -> OutputReply
 
 fn decoded_row_with(byte: u8, word: u16) -> DecodedRow
     requires { ⌜ (4 ≤ byte) × (5 ≤ word) ⌝ }
-    ensures { λ r. ⌜ r ≡ decodedRowOf byte word ⌝ }
+    ensures { λ r. ⌜ r ≡ filledDecodedRow byte word ⌝ }
 {
     DecodedRow {
         number: byte - 1,
@@ -118,7 +118,7 @@ fn decoded_row_with(byte: u8, word: u16) -> DecodedRow
 
 fn encoded_row_with(byte: u8, word: u16) -> EncodedRow
     requires { ⌜ (1 ≤ byte) × (2 ≤ word) ⌝ }
-    ensures { λ r. ⌜ r ≡ encodedRowOf byte word ⌝ }
+    ensures { λ r. ⌜ r ≡ filledEncodedRow byte word ⌝ }
 {
     EncodedRow {
         number: byte - 1,

@@ -4,7 +4,7 @@ use Prim.Native.Nat.{ℕ}
 use Rattle.machine.specs.declared.Refusal.{Refusal}
 use Rattle.machine.specs.declared.Refusal.the-variants.{OutOfRange, PastRom, NoInstruction, Unsupported, BadTarget, StackFull, StackEmpty, PastTable}
 
--- the table of refusals, 1 to 8
+-- the table of refusals, 1 to 8; 9 is in verifier (Verdict), 10 in isa (Encode), 20 to 25 in station_file (Answers)
 abbrev pub numberOf : Refusal → ℕ
 numberOf OutOfRange = 1
 numberOf PastRom = 2

@@ -12,7 +12,8 @@ use machine::Input;
 use machine::Machine;
 use memory::Memory;
 
-// The same machine. A record that is copied as a whole, as bytes, waits for the stores of its single fields.
+// The same machine. A record that is copied as a whole, as bytes, waits for the stores of its single fields; that counts in a
+// single step, and not in a run.
 fn by_fields(machine: Machine) -> Machine
     ensures { λ r. ⌜ r ≡ machine ⌝ }
 {
@@ -32,7 +33,7 @@ fn by_fields(machine: Machine) -> Machine
     }
 }
 
-pub fn lent_step(rom: &[u16], machine: Machine, input: Input) -> LentStep
+pub fn step_by_value(rom: &[u16], machine: Machine, input: Input) -> LentStep
     ensures { λ r. ⌜ r ≡ lentStepOf (stepOf upd17132 (now (rom .entry)) input machine) ⌝ }
 {
     let s = cpu::step(rom, machine, input);
@@ -44,7 +45,7 @@ pub fn lent_step(rom: &[u16], machine: Machine, input: Input) -> LentStep
     }
 }
 
-pub fn lent_run(rom: &[u16], machine: Machine, input: Input, budget: u32) -> LentRun
+pub fn run_by_value(rom: &[u16], machine: Machine, input: Input, budget: u32) -> LentRun
     ensures { λ r. ⌜ r ≡ lentRunOf (runOf upd17132 (now (rom .entry)) input budget machine) ⌝ }
 {
     let r = cpu::run(rom, machine, input, budget);

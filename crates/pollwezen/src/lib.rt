@@ -1,5 +1,6 @@
 // The C interface, include/pollwezen.h: all its entries. Records and inputs are plain structs of unsigned integers, and answers
-// are numbers. The entries on a lent record are the forms in place of the step and the run.
+// are numbers. The entries on a lent record are the forms in place of the step and the run. A slice here is a pointer and a
+// length in C; that the two fit is tested by tests/.
 mod calls;
 mod replies;
 
@@ -23,8 +24,8 @@ ghost use Rattle.transcript.specs.Print.{printOf};
 ghost use Rattle.transcript.specs.Transcript.{transcriptOf};
 ghost use Rattle.pollwezen.specs.Lent.{lentRun, lentRunOf, lentStep, lentStepOf};
 ghost use Rattle.pollwezen.specs.Replies.{printReplyOf, readReplyOf, verdictReplyOf, writeReplyOf};
-use calls::lent_run;
-use calls::lent_step;
+use calls::run_by_value;
+use calls::step_by_value;
 use listing::DecodedRow;
 use listing::EncodedRow;
 use machine::Input;
@@ -88,7 +89,7 @@ pub extern "C" fn pollwezen_step(rom: &[u16], machine: &mut Machine, input: Inpu
     ensures { λ r. ⌜ (lentStep (now (machine .exit)) r ≡ lentStepOf (stepOf upd17132 (now (rom .entry)) input (now (machine .entry))))
         × ((r ≡ 0 → ⊥) → (r ≡ 255 → ⊥) → now (machine .exit) ≡ now (machine .entry)) ⌝ }
 {
-    let s = lent_step(rom, *machine, input);
+    let s = step_by_value(rom, *machine, input);
     *machine = s.machine;
     s.number
 }
@@ -103,7 +104,7 @@ pub extern "C" fn pollwezen_run(
 ) -> RunReply
     ensures { λ r. ⌜ lentRun (now (machine .exit)) r ≡ lentRunOf (runOf upd17132 (now (rom .entry)) input budget (now (machine .entry))) ⌝ }
 {
-    let r = lent_run(rom, *machine, input, budget);
+    let r = run_by_value(rom, *machine, input, budget);
     *machine = r.machine;
     r.reply
 }

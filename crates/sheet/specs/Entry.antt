@@ -34,7 +34,7 @@ module _ (most : ℕ) where
   unfoldable pub covers : Entry → Entry → Bool
   covers e f = reached e && eqb e f
 
-  -- some depth is held by both
+  -- some depth is held by both; with one depth an entry it is `covers`
   unfoldable pub shares : Entry → Entry → Bool
   shares e f = reached e && eqb e f
 

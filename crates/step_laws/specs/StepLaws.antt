@@ -28,7 +28,7 @@ module _ (chip : Chip) (rom : List ℕ) (input : Input) where
   pub record StepLaws (m : Machine) : Type 0 where
     -- "Machine refusals .. leave the record as it came"
     pub kept : (n : ℕ) → stepOf chip rom input m .reply ≡ refused n → stepOf chip rom input m .machine ≡ m
-    -- "A standing step with release 0 changes nothing and answers 'standing'"
+    -- a standing step with release 0 "changes nothing"
     pub standing : stepOf chip rom input m .reply ≡ inStandby → stepOf chip rom input m .machine ≡ m
     -- "the next step takes the word at PC as NOP": with the skip mark set no cell changes
     pub skipped : isMarked (m .control .skip) ≡ true → cellsOf (stepOf chip rom input m .machine) ≡ cellsOf m

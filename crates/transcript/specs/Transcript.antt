@@ -71,7 +71,7 @@ module _ (rom : List ℕ) where
   }
   replied number p (refused n) after = record { progress = record { machine = after; steps = p .steps; refusal = n }; text = [] }
 
-  -- one record; "it stops at a refusal"
+  -- one record; after a refusal there is none
   unfoldable pub recordOf : ℕ → Input → Progress → Outcome
   recordOf number i p =
       cond (eqb (p .refusal) 0)

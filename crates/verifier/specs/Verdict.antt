@@ -63,6 +63,6 @@ module _ (chip : Chip) (rom sheet : List ℕ) where
     pub fitting : length sheet ≡ length rom
     pub rules : EveryRule chip rom sheet
 
-  -- "The check passes a ROM with its sheet exactly when it has no refusal for them and document 01's clearance rules hold"
+  -- demand 3: "The check passes a ROM with its sheet exactly when it has no refusal for them and document 01's clearance rules hold"
   abbrev pub Exactly : Type 0
   Exactly = (verifyOf ≡ pass) ↔ Clear

@@ -55,10 +55,10 @@ use Rattle.pollwezen.proofs.LentRun as S
 use Rattle.pollwezen.proofs.LentRun.Laws as S′
 use Rattle.pollwezen.proofs.RunReply as E
 use Rattle.pollwezen.proofs.RunReply.Laws as E′
-use Rattle.pollwezen.proofs.calls.lent_run as core
-use Rattle.pollwezen.proofs.calls.lent_run.Symbol as core-def
-use Rattle.pollwezen.proofs.calls.lent_run.Symbol.{name as #lent-run}
-use Rattle.pollwezen.proofs.calls.lent_run.Met as core-thm
+use Rattle.pollwezen.proofs.calls.run_by_value as core
+use Rattle.pollwezen.proofs.calls.run_by_value.Symbol as core-def
+use Rattle.pollwezen.proofs.calls.run_by_value.Symbol.{name as #run-by-value}
+use Rattle.pollwezen.proofs.calls.run_by_value.Met as core-thm
 use Rattle.pollwezen.proofs.pollwezen_run.Key.{name as #pollwezen-run}
 use Rattle.pollwezen.proofs.pollwezen_run as pr
 use Rattle.pollwezen.proofs.pollwezen_run.Statement as stated
@@ -108,7 +108,7 @@ module _ {M : Type 1} (𝓤 : URA M) (H : Heap 𝓤) (A : Atoms 𝓤) (W : Given
   abbrev Post : Val → SProp 𝓤
   Post = walkOf 𝓤 H A pr.ended stayed (pr.clauses 𝓤 H A at-mem run) .post (((κ, (κ′, tt)), (q, (q′, tt)), tt, a, vals), tt)
 
-  -- what `lent_run` is passed, and what it asks
+  -- what `run_by_value` is passed, and what it asks
   abbrev to : RunC 𝓤 H A at-mem run .Ghost
   to = (((κ, tt), (q, tt), tt, (s, (h, (i, (n, tt)))), (v ∷ [], (rv h ∷ [], (iv i ∷ [], (nv n ∷ [], tt))))), tt)
 
@@ -118,7 +118,7 @@ module _ {M : Type 1} (𝓤 : URA M) (H : Heap 𝓤) (A : Atoms 𝓤) (W : Given
       nothing ! $ owned ! u32 (Is u32) (uint-makes 𝓤 H A W w32) n _ n-is $ fjoin ! $ owned ! I.the-row (Is I.the-row) (LL.makes I.the-type I′.the-plain 𝓤 H A) i _ i-is $ fjoin ! $ owned ! R.the-row (Is R.the-row) (LL.makes R.the-type R′.the-plain 𝓤 H A) h _ h-is $ fjoin ! $ move ! (2 ∷ 0 ∷ []) $ fjoin ! $
       nothing ! $ move ! (2 ∷ 0 ∷ []) $ join ! $ join ! $ frame ! $ done !
 
-  -- of what `lent_run` ensures, the clause alone: it has no `&mut`, so what is said of last values is dropped
+  -- of what `run_by_value` ensures, the clause alone: it has no `&mut`, so what is said of last values is dropped
   said : (r : LentRun) → ent 𝓤 (ensured 𝓤 H A core.ended (core.clauses 𝓤 H A at-mem run) (κ, tt) (s, (h, (i, (n, tt)))) tt r) (fact 𝓤 (r ≡ lentRunOf (runOf upd17132 (now s) i n h)))
   said r = exE 𝓤 _ (λ ws. snd∗ 𝓤 (sem 𝓤 H A (lasts core.ended (κ, tt) (s, (h, (i, (n, tt)))) ws)) (fact 𝓤 (r ≡ lentRunOf (runOf upd17132 (now s) i n h))))
 
@@ -135,7 +135,7 @@ module _ {M : Type 1} (𝓤 : URA M) (H : Heap 𝓤) (A : Atoms 𝓤) (W : Given
       -- the report
       owned ! E.the-row (Is E.the-row) (LL.makes E.the-type E′.the-plain 𝓤 H A) (r .reply) _ (report-is r vs is) $ done !
 
-  module _ (C : Calls 𝓤 H) (Λ : Loops 𝓤 H) (fm : FmC 𝓤 H (W .laws) C) (known : Triple 𝓤 (C #lent-run) (RunC 𝓤 H A at-mem run)) where
+  module _ (C : Calls 𝓤 H) (Λ : Loops 𝓤 H) (fm : FmC 𝓤 H (W .laws) C) (known : Triple 𝓤 (C #run-by-value) (RunC 𝓤 H A at-mem run)) where
     walk : Is (ShrSlice (named 0) κ u16) s (v ∷ []) → ent 𝓤 (onEntry 𝓤 H A pr.signature (κ, (κ′, tt)) (q, (q′, tt)) a vals) (WpFn 𝓤 H C Λ code.function (v ∷ vptr b o ∷ iv i ∷ nv n ∷ []) Post)
     walk s-is =
         qed W ((‵ (flft κ q) ⊛ ‵ (flft κ′ q′) ⊛ ‵ ftrue) ∷ ‵ (owns (ShrSlice (named 0) κ u16 ∷ MutRef (named 1) κ′ R.the-row ∷ I.the-row ∷ u32 ∷ []) a vals) ∷ []) ∵
@@ -167,12 +167,12 @@ module _ {M : Type 1} (𝓤 : URA M) (H : Heap 𝓤) (A : Atoms 𝓤) (W : Given
         keep ! (0 ∷ 1 ∷ 2 ∷ 3 ∷ 4 ∷ []) $ by ! (exits r (w ∷ []) is e))))))))))))))
 
 module _ {M : Type 1} (𝓤 : URA M) (H : Heap 𝓤) (A : Atoms 𝓤) (W : Given 𝓤 H A) (at-mem : Memory → SProp 𝓤) (run : Routine → Fun 𝓤) where
-  pr-walks : (C : Calls 𝓤 H) (Λ : Loops 𝓤 H) → FmC 𝓤 H (W .laws) C → Triple 𝓤 (C #lent-run) (RunC 𝓤 H A at-mem run) → Walks 𝓤 H A pr.ended stayed (WpFn 𝓤 H C Λ code.function) (pr.clauses 𝓤 H A at-mem run)
+  pr-walks : (C : Calls 𝓤 H) (Λ : Loops 𝓤 H) → FmC 𝓤 H (W .laws) C → Triple 𝓤 (C #run-by-value) (RunC 𝓤 H A at-mem run) → Walks 𝓤 H A pr.ended stayed (WpFn 𝓤 H C Λ code.function) (pr.clauses 𝓤 H A at-mem run)
   pr-walks C Λ fm known = walked 𝓤 H A pr.ended stayed (pr.clauses 𝓤 H A at-mem run) (WpFn 𝓤 H C Λ code.function)
       (λ κs. (slice-vals, (ptr-vals, (LL.vals I.the-type I′.the-laws, (uint-vals w32, tt))))) (λ κs. (shr-slice-tells (named 0) (κs .0) u16, (mut-tells (named 1) (κs .1 .0) R.the-row, (LL.tells I.the-type I′.the-laws, (uint-tells w32, tt)))))
       (λ κs qs bounds a _ are. via 𝓤 _ (fst∗ 𝓤 _ (emp 𝓤)) (walk 𝓤 H A W at-mem run (κs .0) (κs .1 .0) (qs .0) (qs .1 .0) (a .0) (a .1 .0 .ptr .0) (a .1 .0 .ptr .1) (a .1 .0 .name) (a .1 .0 .now) (a .1 .1 .0) (a .1 .1 .1 .0) (are .1 .1 .0) (are .1 .1 .1 .0) C Λ fm known (are .0)))
 
-pr-meets : {M : Type 1} (𝓤 : URA M) (H : Heap 𝓤) (A : Atoms 𝓤) → Given 𝓤 H A → (at-mem : Memory → SProp 𝓤) (run : Routine → Fun 𝓤) (𝓣 : Tables 𝓤 H) → Triple 𝓤 (𝓣 .C #lent-run) (RunC 𝓤 H A at-mem run)
+pr-meets : {M : Type 1} (𝓤 : URA M) (H : Heap 𝓤) (A : Atoms 𝓤) → Given 𝓤 H A → (at-mem : Memory → SProp 𝓤) (run : Routine → Fun 𝓤) (𝓣 : Tables 𝓤 H) → Triple 𝓤 (𝓣 .C #run-by-value) (RunC 𝓤 H A at-mem run)
     → Meets 𝓤 H A pr.signature (WpFn 𝓤 H (𝓣 .C) (𝓣 .Λ) code.function) (pr.spec 𝓤 H A at-mem run)
 pr-meets 𝓤 H A W at-mem run 𝓣 known =
     walk-meets 𝓤 H A pr.ended stayed W (goes-none-slice 𝓤 H A W 2 (0 ∷ []) tt (plain (λ _. u16)) yes, (goes-ref 𝓤 H A W 2 1 tt (plain (λ _. R.the-row)), (goes-none 𝓤 H A W 2 (λ _. I.the-row) yes (λ κs x f. refl), (goes-none 𝓤 H A W 2 (λ _. u32) yes (λ κs x f. refl), tt)))) (pr.clauses 𝓤 H A at-mem run)
@@ -184,4 +184,4 @@ pollwezen-run-spec 𝓤 H 𝓜 𝓖 𝓡 =
     entered 𝓤 H (tripleOf 𝓤 H (𝓖 .A) pr.signature (pr.spec 𝓤 H (𝓖 .A) (𝓜 .mem) (𝓡 .run)))
     (tables 𝓤 H 𝓜 𝓡 code.env .C) (tables 𝓤 H 𝓜 𝓡 code.env .Λ) #pollwezen-run code.function (code.unfolded 𝓤 H 𝓜 𝓡)
     (pr-meets 𝓤 H (𝓖 .A) (givenOf 𝓤 H 𝓜 𝓖) (𝓜 .mem) (𝓡 .run) (tablesOf 𝓤 H 𝓜 (tables 𝓤 H 𝓜 𝓡 code.env))
-    (cited 𝓤 H (RunC 𝓤 H (𝓖 .A) (𝓜 .mem) (𝓡 .run)) 𝓜 𝓡 code.env #lent-run core-def.routine code.calls-pollwezen·calls·lent-run (core-thm.met 𝓤 H 𝓜 𝓖 𝓡)))
+    (cited 𝓤 H (RunC 𝓤 H (𝓖 .A) (𝓜 .mem) (𝓡 .run)) 𝓜 𝓡 code.env #run-by-value core-def.routine code.calls-pollwezen·calls·run-by-value (core-thm.met 𝓤 H 𝓜 𝓖 𝓡)))

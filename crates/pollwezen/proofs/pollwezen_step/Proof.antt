@@ -1,6 +1,6 @@
--- `pollwezen_step` meets its contract: a walk of its MIR, by hand. The borrow is opened, the record is copied out, `lent_step`
+-- `pollwezen_step` meets its contract: a walk of its MIR, by hand. The borrow is opened, the record is copied out, `step_by_value`
 -- is called on the copy, its record is stored over the old one, and the borrow is closed at the new record.
--- All that the proof knows of `lent_step` is that it meets its contract. No line depends on the fields of the record.
+-- All that the proof knows of `step_by_value` is that it meets its contract. No line depends on the fields of the record.
 -- Assumes nothing.
 use mathlib.Core.Path.{_≡_, refl, ap}
 use Prim.Native.Nat.{ℕ}
@@ -55,10 +55,10 @@ use Rattle.machine.proofs.Input.Laws as I′
 use Rattle.pollwezen.proofs.LentStep as S
 use Rattle.pollwezen.proofs.LentStep.Laws as S′
 use Rattle.pollwezen.proofs.Kept.{kept}
-use Rattle.pollwezen.proofs.calls.lent_step as step
-use Rattle.pollwezen.proofs.calls.lent_step.Symbol as step-def
-use Rattle.pollwezen.proofs.calls.lent_step.Symbol.{name as #lent-step}
-use Rattle.pollwezen.proofs.calls.lent_step.Met as step-thm
+use Rattle.pollwezen.proofs.calls.step_by_value as step
+use Rattle.pollwezen.proofs.calls.step_by_value.Symbol as step-def
+use Rattle.pollwezen.proofs.calls.step_by_value.Symbol.{name as #step-by-value}
+use Rattle.pollwezen.proofs.calls.step_by_value.Met as step-thm
 use Rattle.pollwezen.proofs.pollwezen_step.Key.{name as #pollwezen-step}
 use Rattle.pollwezen.proofs.pollwezen_step as ms
 use Rattle.pollwezen.proofs.pollwezen_step.Statement as stated
@@ -105,7 +105,7 @@ module _ {M : Type 1} (𝓤 : URA M) (H : Heap 𝓤) (A : Atoms 𝓤) (W : Given
   abbrev Post : Val → SProp 𝓤
   Post = walkOf 𝓤 H A ms.ended stayed (ms.clauses 𝓤 H A at-mem run) .post (((κ, (κ′, tt)), (q, (q′, tt)), tt, a, vals), tt)
 
-  -- what `lent_step` is passed, and what it asks
+  -- what `step_by_value` is passed, and what it asks
   abbrev to : StepC 𝓤 H A at-mem run .Ghost
   to = (((κ, tt), (q, tt), tt, (s, (h, (i, tt))), (v ∷ [], (rv h ∷ [], (iv i ∷ [], tt)))), tt)
 
@@ -115,7 +115,7 @@ module _ {M : Type 1} (𝓤 : URA M) (H : Heap 𝓤) (A : Atoms 𝓤) (W : Given
       nothing ! $ owned ! I.the-row (Is I.the-row) (LL.makes I.the-type I′.the-plain 𝓤 H A) i _ i-is $ fjoin ! $ owned ! R.the-row (Is R.the-row) (LL.makes R.the-type R′.the-plain 𝓤 H A) h _ h-is $ fjoin ! $ move ! (2 ∷ 0 ∷ []) $ fjoin ! $
       nothing ! $ move ! (2 ∷ 0 ∷ []) $ join ! $ join ! $ frame ! $ done !
 
-  -- of what `lent_step` ensures, the clause alone: it has no `&mut`, so what is said of last values is dropped
+  -- of what `step_by_value` ensures, the clause alone: it has no `&mut`, so what is said of last values is dropped
   said : (r : LentStep) → ent 𝓤 (ensured 𝓤 H A step.ended (step.clauses 𝓤 H A at-mem run) (κ, tt) (s, (h, (i, tt))) tt r) (fact 𝓤 (r ≡ lentStepOf (stepOf upd17132 (now s) i h)))
   said r = exE 𝓤 _ (λ ws. snd∗ 𝓤 (sem 𝓤 H A (lasts step.ended (κ, tt) (s, (h, (i, tt))) ws)) (fact 𝓤 (r ≡ lentStepOf (stepOf upd17132 (now s) i h))))
 
@@ -132,7 +132,7 @@ module _ {M : Type 1} (𝓤 : URA M) (H : Heap 𝓤) (A : Atoms 𝓤) (W : Given
       -- the answer
       owned ! u8 (Is u8) (uint-makes 𝓤 H A W w8) (r .number) _ (number-is r vs is) $ done !
 
-  module _ (C : Calls 𝓤 H) (Λ : Loops 𝓤 H) (fm : FmC 𝓤 H (W .laws) C) (known : Triple 𝓤 (C #lent-step) (StepC 𝓤 H A at-mem run)) where
+  module _ (C : Calls 𝓤 H) (Λ : Loops 𝓤 H) (fm : FmC 𝓤 H (W .laws) C) (known : Triple 𝓤 (C #step-by-value) (StepC 𝓤 H A at-mem run)) where
     walk : Is (ShrSlice (named 0) κ u16) s (v ∷ []) → ent 𝓤 (onEntry 𝓤 H A ms.signature (κ, (κ′, tt)) (q, (q′, tt)) a vals) (WpFn 𝓤 H C Λ code.function (v ∷ vptr b o ∷ iv i ∷ []) Post)
     walk s-is =
         qed W ((‵ (flft κ q) ⊛ ‵ (flft κ′ q′) ⊛ ‵ ftrue) ∷ ‵ (owns (ShrSlice (named 0) κ u16 ∷ MutRef (named 1) κ′ R.the-row ∷ I.the-row ∷ []) a vals) ∷ []) ∵
@@ -164,12 +164,12 @@ module _ {M : Type 1} (𝓤 : URA M) (H : Heap 𝓤) (A : Atoms 𝓤) (W : Given
         keep ! (0 ∷ 1 ∷ 2 ∷ 3 ∷ 4 ∷ []) $ by ! (exits r (w ∷ []) is e)))))))))))))
 
 module _ {M : Type 1} (𝓤 : URA M) (H : Heap 𝓤) (A : Atoms 𝓤) (W : Given 𝓤 H A) (at-mem : Memory → SProp 𝓤) (run : Routine → Fun 𝓤) where
-  ms-walks : (C : Calls 𝓤 H) (Λ : Loops 𝓤 H) → FmC 𝓤 H (W .laws) C → Triple 𝓤 (C #lent-step) (StepC 𝓤 H A at-mem run) → Walks 𝓤 H A ms.ended stayed (WpFn 𝓤 H C Λ code.function) (ms.clauses 𝓤 H A at-mem run)
+  ms-walks : (C : Calls 𝓤 H) (Λ : Loops 𝓤 H) → FmC 𝓤 H (W .laws) C → Triple 𝓤 (C #step-by-value) (StepC 𝓤 H A at-mem run) → Walks 𝓤 H A ms.ended stayed (WpFn 𝓤 H C Λ code.function) (ms.clauses 𝓤 H A at-mem run)
   ms-walks C Λ fm known = walked 𝓤 H A ms.ended stayed (ms.clauses 𝓤 H A at-mem run) (WpFn 𝓤 H C Λ code.function)
       (λ κs. (slice-vals, (ptr-vals, (LL.vals I.the-type I′.the-laws, tt)))) (λ κs. (shr-slice-tells (named 0) (κs .0) u16, (mut-tells (named 1) (κs .1 .0) R.the-row, (LL.tells I.the-type I′.the-laws, tt))))
       (λ κs qs bounds a _ are. via 𝓤 _ (fst∗ 𝓤 _ (emp 𝓤)) (walk 𝓤 H A W at-mem run (κs .0) (κs .1 .0) (qs .0) (qs .1 .0) (a .0) (a .1 .0 .ptr .0) (a .1 .0 .ptr .1) (a .1 .0 .name) (a .1 .0 .now) (a .1 .1 .0) (are .1 .1 .0) C Λ fm known (are .0)))
 
-ms-meets : {M : Type 1} (𝓤 : URA M) (H : Heap 𝓤) (A : Atoms 𝓤) → Given 𝓤 H A → (at-mem : Memory → SProp 𝓤) (run : Routine → Fun 𝓤) (𝓣 : Tables 𝓤 H) → Triple 𝓤 (𝓣 .C #lent-step) (StepC 𝓤 H A at-mem run)
+ms-meets : {M : Type 1} (𝓤 : URA M) (H : Heap 𝓤) (A : Atoms 𝓤) → Given 𝓤 H A → (at-mem : Memory → SProp 𝓤) (run : Routine → Fun 𝓤) (𝓣 : Tables 𝓤 H) → Triple 𝓤 (𝓣 .C #step-by-value) (StepC 𝓤 H A at-mem run)
     → Meets 𝓤 H A ms.signature (WpFn 𝓤 H (𝓣 .C) (𝓣 .Λ) code.function) (ms.spec 𝓤 H A at-mem run)
 ms-meets 𝓤 H A W at-mem run 𝓣 known =
     walk-meets 𝓤 H A ms.ended stayed W (goes-none-slice 𝓤 H A W 2 (0 ∷ []) tt (plain (λ _. u16)) yes, (goes-ref 𝓤 H A W 2 1 tt (plain (λ _. R.the-row)), (goes-none 𝓤 H A W 2 (λ _. I.the-row) yes (λ κs x f. refl), tt))) (ms.clauses 𝓤 H A at-mem run)
@@ -181,4 +181,4 @@ pollwezen-step-spec 𝓤 H 𝓜 𝓖 𝓡 =
     entered 𝓤 H (tripleOf 𝓤 H (𝓖 .A) ms.signature (ms.spec 𝓤 H (𝓖 .A) (𝓜 .mem) (𝓡 .run)))
     (tables 𝓤 H 𝓜 𝓡 code.env .C) (tables 𝓤 H 𝓜 𝓡 code.env .Λ) #pollwezen-step code.function (code.unfolded 𝓤 H 𝓜 𝓡)
     (ms-meets 𝓤 H (𝓖 .A) (givenOf 𝓤 H 𝓜 𝓖) (𝓜 .mem) (𝓡 .run) (tablesOf 𝓤 H 𝓜 (tables 𝓤 H 𝓜 𝓡 code.env))
-    (cited 𝓤 H (StepC 𝓤 H (𝓖 .A) (𝓜 .mem) (𝓡 .run)) 𝓜 𝓡 code.env #lent-step step-def.routine code.calls-pollwezen·calls·lent-step (step-thm.met 𝓤 H 𝓜 𝓖 𝓡)))
+    (cited 𝓤 H (StepC 𝓤 H (𝓖 .A) (𝓜 .mem) (𝓡 .run)) 𝓜 𝓡 code.env #step-by-value step-def.routine code.calls-pollwezen·calls·step-by-value (step-thm.met 𝓤 H 𝓜 𝓖 𝓡)))
