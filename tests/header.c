@@ -1,6 +1,6 @@
 /* Tests include/pollwezen.h against the library: the layout of its structs (layout.c), and each entry with good and bad input,
- * those for words in codes.c and for files in files.c. It prints each line that fails and ends with how many did; the exit
- * status is 0 where none did. */
+ * those for words in codes.c and for files in files.c; then what else it says: the names of the rows (rows.c). It prints each
+ * line that fails and ends with how many did; the exit status is 0 where none did. */
 #include "header.h"
 
 #include <stdio.h>
@@ -15,7 +15,7 @@ void expect(int holds, const char *what) {
     }
 }
 
-static int same(const pollwezen_machine *a, const pollwezen_machine *b) {
+int same(const pollwezen_machine *a, const pollwezen_machine *b) {
     return memcmp(a->cells, b->cells, sizeof a->cells) == 0 && memcmp(a->stack, b->stack, sizeof a->stack) == 0
         && a->pc == b->pc && a->levels == b->levels && a->skip == b->skip && a->standby == b->standby;
 }
@@ -131,6 +131,7 @@ int main(void) {
     ports();
     verdicts();
     codes();
+    row_names();
     files();
     printf("header: %d failed\n", failed);
     return failed != 0;

@@ -5,9 +5,11 @@
 #include "pollwezen.h"
 
 void expect(int holds, const char *what);
+int same(const pollwezen_machine *a, const pollwezen_machine *b);
 
 void layout(void);
 void codes(void);
+void row_names(void);
 void files(void);
 
 #endif
