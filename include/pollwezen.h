@@ -47,7 +47,7 @@ extern "C" {
 #define POLLWEZEN_WORDS 1024        /* ROM words, and sheet entries */
 #define POLLWEZEN_INPUT_BYTES 45045 /* 4,095 input records of eleven bytes */
 #define POLLWEZEN_FILE_BYTES 48125
-#define POLLWEZEN_TEXT_BYTES 100000
+#define POLLWEZEN_TEXT_BYTES 100000 /* the longest text has 89,011 */
 
 /* The machine's record. The marks are 0 or 1. */
 typedef struct {

@@ -1,6 +1,6 @@
 /* Tests include/pollwezen.h against the library: the layout of its structs (layout.c), and each entry with good and bad input,
- * those for words in codes.c and for files in files.c; then what else it says: the names of the rows (rows.c). It prints each
- * line that fails and ends with how many did; the exit status is 0 where none did. */
+ * those for words in codes.c and for files in files.c; then what else it says: the names of the rows (rows.c) and the sizes
+ * (sizes.c). It prints each line that fails and ends with how many did; the exit status is 0 where none did. */
 #include "header.h"
 
 #include <stdio.h>
@@ -133,6 +133,7 @@ int main(void) {
     codes();
     row_names();
     files();
+    sizes();
     printf("header: %d failed\n", failed);
     return failed != 0;
 }

@@ -11,5 +11,6 @@ void layout(void);
 void codes(void);
 void row_names(void);
 void files(void);
+void sizes(void);
 
 #endif
