@@ -59,7 +59,8 @@ typedef struct {
     uint8_t standby;
 } pollwezen_machine;
 
-/* The input record: P0A to P0E, a nibble each, and the release bit. */
+/* The input record: P0A to P0E, a nibble each, and the release bit. It is the eleven bytes of a record in a station file, in
+ * their order and with nothing between or after them: a record that was read may be copied to it as it is. */
 typedef struct {
     uint8_t pins[5];
     uint8_t directions[5];

@@ -12,5 +12,6 @@ void codes(void);
 void row_names(void);
 void files(void);
 void sizes(void);
+void records(void);
 
 #endif
