@@ -2,9 +2,9 @@
  * The contracts are in crates/pollwezen/src/lib.rt; the definitions that they cite in the folders specs of crates/memory,
  * crates/machine and crates/cpu (record, step, run), crates/verifier and crates/clearance (the check), crates/listing (words),
  * crates/station_file, crates/transcript and crates/pollwezen.
- * The caller keeps what C asks of any call: pointers (not NULL, even where the length is 0) to as many elements as said, and a
- * lent record or buffer that no other argument overlaps. Whatever stands in them is answered or refused. No buffer is written
- * past its length, and none is kept. */
+ * The caller keeps what C asks of any call: pointers to as many elements as said, and a lent record or buffer that no other
+ * argument overlaps. Where a length is 0 its pointer may be NULL, as tested; that of a lent record may not. Whatever stands in
+ * them is answered or refused. No buffer is written past its length, and none is kept. */
 #ifndef POLLWEZEN_H
 #define POLLWEZEN_H
 

@@ -13,5 +13,6 @@ void row_names(void);
 void files(void);
 void sizes(void);
 void records(void);
+void nulls(void);
 
 #endif
