@@ -1,7 +1,7 @@
 /* Tests include/pollwezen.h against the library: the layout of its structs (layout.c), and each entry with good and bad input,
  * those for words in codes.c and for files in files.c; then what else it says: the names of the rows (rows.c), the sizes
- * (sizes.c), a file's bytes as an input (records.c) and NULL (nulls.c). It prints each line that fails and ends with how many
- * did; the exit status is 0 where none did. */
+ * (sizes.c), a file's bytes as an input (records.c), NULL (nulls.c) and the stack that an entry needs (stack.c). It prints each
+ * line that fails and ends with how many did; the exit status is 0 where none did. */
 #include "header.h"
 
 #include <stdio.h>
@@ -137,6 +137,7 @@ int main(void) {
     sizes();
     records();
     nulls();
+    stack_needs();
     printf("header: %d failed\n", failed);
     return failed != 0;
 }

@@ -14,5 +14,6 @@ void files(void);
 void sizes(void);
 void records(void);
 void nulls(void);
+void stack_needs(void);
 
 #endif
