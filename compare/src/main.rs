@@ -13,12 +13,14 @@
 #![deny(unsafe_code)]
 
 mod codes;
+mod edges;
 mod entries;
 mod events;
 mod files;
 mod lists;
 mod pair;
 mod parts;
+mod places;
 #[cfg_attr(not(feature = "faults"), path = "no_faults.rs")]
 mod planted;
 mod random;

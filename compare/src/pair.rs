@@ -14,7 +14,7 @@ pub struct Finding(pub String);
 
 /// The header's numbers for what is no refusal (include/pollwezen.h).
 pub const DONE: u8 = 0;
-const FAIL: u8 = 254;
+pub const FAIL: u8 = 254;
 pub const STANDBY: u8 = 255;
 
 /// Reset in both.

@@ -3,7 +3,7 @@
 use crate::pair::Finding;
 use crate::random::Random;
 use crate::tally::Tally;
-use crate::{codes, entries, events, files, lists, ranges, steps, verdicts};
+use crate::{codes, edges, entries, events, files, lists, places, ranges, steps, verdicts};
 
 pub struct Part {
     pub name: &'static str,
@@ -64,6 +64,14 @@ pub const PARTS: &[Part] = &[
         numbers: &[0, 2, 3, 4, 5, 6, 7, 8, 255],
         things: &["runs of no step", "runs of some steps"],
         case: steps::random_run,
+    },
+    Part {
+        name: "edges",
+        cases: places::COUNT,
+        few: places::COUNT,
+        numbers: &[0, 1, 2, 9, 254, 255],
+        things: places::ALL,
+        case: edges::edge,
     },
     Part {
         name: "ranges",

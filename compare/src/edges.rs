@@ -1,0 +1,201 @@
+//! The ranges of refusal 1, value by value and not by chance: each byte of the
+//! record and of the inputs at all its 256 values, and PC, stack, ROM and
+//! budget on both sides of each edge. The ROM has NOP in every word, so that
+//! what a call answers and leaves is told here from document 01, and both
+//! emulators are held to it.
+
+use std::fmt::Debug;
+use std::sync::OnceLock;
+
+use reference::{Input, Machine};
+
+use crate::host::{RunReply, VerdictReply};
+use crate::pair::{self, Finding};
+use crate::places::*;
+use crate::random::Random;
+use crate::records;
+use crate::tally::Tally;
+use crate::words;
+
+/// What a call is given; its ROM has so many NOPs.
+struct Call {
+    words: usize,
+    machine: Machine,
+    input: Input,
+}
+
+/// The edge `index` in three calls: with all else at its first values, at its
+/// last, and random.
+pub fn edge(random: &mut Random, index: u64, tally: &mut Tally) -> Result<(), Finding> {
+    let edges = edges();
+    if edges.len() as u64 != COUNT {
+        return Err(Finding(format!("there are {} edges, and {COUNT} are told\n", edges.len())));
+    }
+    let edge = edges[(index % COUNT) as usize];
+    for mut call in [first(), last(), any(random)] {
+        let mut budgets = vec![0, 1, 3];
+        edge.put_into(&mut call, &mut budgets);
+        call.is_as_told(edge, &budgets, tally)?;
+    }
+    if let Words = edge.place {
+        check(edge, tally)?;
+    }
+    edge.name().into_iter().for_each(|name| tally.see(name));
+    tally.see(if edge.in_range() { "values in range" } else { "values out of range" });
+    Ok(())
+}
+
+fn first() -> Call {
+    Call { words: 1, machine: Machine::reset(), input: Input::default() }
+}
+
+fn last() -> Call {
+    let cells = std::array::from_fn(|address| free_bits(address) as u8);
+    let machine = Machine { cells, pc: 1_023, stack: [1_023; 5], levels: 5, skip: 1, standby: 1 };
+    let input = Input { pins: [15; 5], directions: [15; 5], release: 1 };
+    Call { words: 1_024, machine, input }
+}
+
+fn any(random: &mut Random) -> Call {
+    let words = 1 + random.below(1_024) as usize;
+    Call { words, machine: records::machine(random, words), input: records::input(random) }
+}
+
+impl Edge {
+    fn put_into(self, call: &mut Call, budgets: &mut Vec<u32>) {
+        let Call { words, machine, input } = call;
+        let (byte, word) = (self.value as u8, self.value as u16);
+        match self.place {
+            Cell(address) => machine.cells[address] = byte,
+            Pc => machine.pc = word,
+            Levels => open(machine, byte),
+            Stack(place, levels) => {
+                open(machine, levels);
+                machine.stack[place] = word;
+            }
+            Skip => machine.skip = byte,
+            Standby => machine.standby = byte,
+            Pin(port) => input.pins[port] = byte,
+            Direction(port) => input.directions[port] = byte,
+            Release => input.release = byte,
+            Words => *words = self.value as usize,
+            Budget => *budgets = vec![self.value],
+        }
+    }
+}
+
+/// So many open levels; the places above them 0.
+fn open(machine: &mut Machine, levels: u8) {
+    machine.levels = levels;
+    machine.stack.iter_mut().skip(levels.into()).for_each(|place| *place = 0);
+}
+
+impl Call {
+    /// A run with each budget, and the step where the budget is not the edge.
+    fn is_as_told(&self, edge: Edge, budgets: &[u32], tally: &mut Tally) -> Result<(), Finding> {
+        let rom = &nops()[..self.words];
+        for &budget in budgets {
+            let (told, after) = self.run(edge.in_range(), budget);
+            let mut left = self.machine.clone();
+            let report = pair::run(rom, &mut left, &self.input, budget)?;
+            self.same(edge, &format!("run of {budget}"), (&told, &after), (&report, &left))?;
+            tally.answer(report.number);
+        }
+        if let Budget = edge.place {
+            return Ok(());
+        }
+        let mut after = self.machine.clone();
+        let told = if edge.in_range() { self.step(&mut after) } else { 1 };
+        let mut left = self.machine.clone();
+        let number = pair::step(rom, &mut left, &self.input)?;
+        self.same(edge, "step", (&told, &after), (&number, &left))?;
+        tally.answer(number);
+        Ok(())
+    }
+
+    /// The answer of a step in range, and the machine after it: each word is
+    /// NOP, skipped or not.
+    fn step(&self, machine: &mut Machine) -> u8 {
+        if machine.standby == 1 && self.input.release == 0 {
+            return pair::STANDBY;
+        }
+        if usize::from(machine.pc) >= self.words {
+            return 2;
+        }
+        machine.pc = if machine.pc == 1_023 { 0 } else { machine.pc + 1 };
+        (machine.skip, machine.standby) = (0, 0);
+        pair::DONE
+    }
+
+    /// What a run reports, and the machine after it.
+    fn run(&self, in_range: bool, budget: u32) -> (RunReply, Machine) {
+        let mut machine = self.machine.clone();
+        if !in_range {
+            return (RunReply { steps: 0, number: 1 }, machine);
+        }
+        let mut steps = 0;
+        while steps < budget {
+            match self.step(&mut machine) {
+                pair::DONE => steps += 1,
+                pair::STANDBY => break,
+                number => return (RunReply { steps, number }, machine),
+            }
+        }
+        (RunReply { steps, number: 0 }, machine)
+    }
+
+    /// Both answered and left the same: that must be what is told.
+    fn same<T: Debug + PartialEq>(
+        &self,
+        edge: Edge,
+        call: &str,
+        told: (&T, &Machine),
+        got: (&T, &Machine),
+    ) -> Result<(), Finding> {
+        if told == got {
+            return Ok(());
+        }
+        let rom = &nops()[..self.words];
+        Err(Finding(format!(
+            "{edge:?}, {}both answer {:?} and leave:\n{}by document 01 {:?}\n\
+             first difference to it in the record: {:?}\n",
+            pair::case(call, rom, &self.machine, &self.input),
+            got.0,
+            pair::show(got.1),
+            told.0,
+            pair::difference(got.1, told.1)
+        )))
+    }
+}
+
+/// The check of a ROM of so many NOPs at level 0, with a sheet of its length,
+/// one entry less and one more.
+fn check(edge: Edge, tally: &mut Tally) -> Result<(), Finding> {
+    let words = edge.value as usize;
+    let last = VerdictReply { number: pair::FAIL, word: (words as u16).wrapping_sub(1), rule: 4 };
+    let alone = |number| VerdictReply { number, word: 0, rule: 0 };
+    for entries in [words.saturating_sub(1), words, words + 1] {
+        let told = match words {
+            _ if !edge.in_range() => alone(1),
+            _ if entries != words => alone(9),
+            1_024 => alone(pair::DONE),
+            _ => last,
+        };
+        let sheet = vec![0; entries];
+        let checked = pair::verify(&nops()[..words], &sheet)?;
+        if checked != told {
+            return Err(Finding(format!(
+                "the check of {words} words with {entries} entries: both answer {checked:?}, \
+                 by document 01 {told:?}\n"
+            )));
+        }
+        tally.answer(checked.number);
+    }
+    Ok(())
+}
+
+/// NOPs for the longest ROM.
+fn nops() -> &'static [u16] {
+    static NOPS: OnceLock<Vec<u16>> = OnceLock::new();
+    NOPS.get_or_init(|| vec![words::NOP; 66_560])
+}
