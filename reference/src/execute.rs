@@ -3,7 +3,7 @@
 
 use crate::alu::Operands;
 use crate::fault::{self, fault};
-use crate::isa::{addr_field, decode_group, low_field, m_field, opcode, Instruction};
+use crate::isa::{addr_field, decode_group, low_field, m_field, opcode, taken_for, Instruction};
 use crate::machine::{Input, Machine, LAST_ADDRESS};
 
 /// The next PC: 0 after 1,023.
@@ -25,7 +25,7 @@ impl Machine {
     pub(crate) fn execute(&mut self, rom: &[u16], input: &Input, word: u16) -> Result<u16, u8> {
         let next = following(rom, self.pc);
         let (m, r, n) = (m_field(word), low_field(word), low_field(word));
-        match word >> 11 {
+        match taken_for(word >> 11) {
             opcode::ADD_RM => self.add(self.on_register(input, r, m), 0),
             opcode::ADD_MN => self.add(self.on_data(input, m, n), 0),
             opcode::ADDC_RM => self.add(self.on_register(input, r, m), self.carry()),

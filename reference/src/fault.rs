@@ -92,6 +92,22 @@ pub const CLOSED_NOT_TESTED: u32 = 29;
 pub const COUNTS_BEFORE_ENTRIES: u32 = 30;
 /// A file with bytes after its end is 24 even if an input is out of range.
 pub const EXCESS_BEFORE_RANGE: u32 = 31;
+/// SKGE and SKLT are exchanged, in the decoder, the encoder and the step.
+pub const SKIPS_EXCHANGED: u32 = 32;
+/// Six open levels are in range.
+pub const SIX_LEVELS: u32 = 33;
+/// A skip mark of 2 is in range.
+pub const SKIP_OF_TWO: u32 = 34;
+/// A standby mark of 2 is in range.
+pub const STANDBY_OF_TWO: u32 = 35;
+/// A PC of 1,024 is in range.
+pub const PC_PAST_LAST: u32 = 36;
+/// A release of 2 is in range.
+pub const RELEASE_OF_TWO: u32 = 37;
+/// A ROM of 1,025 words is in range for a step and a run.
+pub const ROM_ONE_MORE: u32 = 38;
+/// A budget of 65,536 is in range.
+pub const BUDGET_ONE_MORE: u32 = 39;
 
 /// The number of the last fault.
-pub const LAST: u32 = EXCESS_BEFORE_RANGE;
+pub const LAST: u32 = BUDGET_ONE_MORE;

@@ -103,6 +103,17 @@ pub(crate) mod opcode {
     pub const SKF: u16 = 0x1F;
 }
 
+/// The opcode that a word's top five bits are taken for, and that an
+/// instruction is given: itself, but for a deliberate fault.
+#[inline(always)]
+pub(crate) fn taken_for(code: u16) -> u16 {
+    match code {
+        opcode::SKGE if fault(fault::SKIPS_EXCHANGED) => opcode::SKLT,
+        opcode::SKLT if fault(fault::SKIPS_EXCHANGED) => opcode::SKGE,
+        _ => code,
+    }
+}
+
 /// The word of RETSK, which has no operand.
 pub(crate) const RETSK: u16 = opcode::GROUP << 11 | 0x1 << 8 | 0xE << 4;
 
@@ -127,7 +138,7 @@ pub(crate) fn addr_field(word: u16) -> u16 {
 /// The instruction of a word, or none.
 pub fn decode(word: u16) -> Option<Instruction> {
     let (m, r, n, addr) = (m_field(word), low_field(word), low_field(word), addr_field(word));
-    let instruction = match word >> 11 {
+    let instruction = match taken_for(word >> 11) {
         opcode::ADD_RM => AddRM { r, m },
         opcode::SUB_RM => SubRM { r, m },
         opcode::ADDC_RM => AddcRM { r, m },
@@ -258,7 +269,7 @@ pub fn encode(instruction: Instruction) -> Result<u16, u8> {
 
 /// Opcode, 7-bit memory address, r or n.
 fn memory(opcode: u16, m: u8, low: u8) -> Result<u16, u8> {
-    Ok(opcode << 11 | field(m.into(), 0x7F)? << 4 | field(low.into(), 0xF)?)
+    Ok(taken_for(opcode) << 11 | field(m.into(), 0x7F)? << 4 | field(low.into(), 0xF)?)
 }
 
 /// Opcode and 11-bit ROM address.

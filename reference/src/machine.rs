@@ -75,11 +75,11 @@ impl Machine {
         // An OR over all cells, with no early end, is the quick way.
         let stray = (self.cells.iter().zip(WRITABLE.iter())).fold(0, |s, (c, w)| s | (c & !w));
         stray == 0
-            && self.pc <= LAST_ADDRESS
-            && self.levels <= 5
+            && self.pc <= LAST_ADDRESS + u16::from(fault(fault::PC_PAST_LAST))
+            && self.levels <= 5 + u8::from(fault(fault::SIX_LEVELS))
             && self.stack_in_range()
-            && self.skip <= 1
-            && self.standby <= 1
+            && self.skip <= 1 + u8::from(fault(fault::SKIP_OF_TWO))
+            && self.standby <= 1 + u8::from(fault(fault::STANDBY_OF_TWO))
     }
 
     /// Open places hold addresses, closed places hold 0.
@@ -100,7 +100,7 @@ impl Input {
     pub fn in_range(&self) -> bool {
         // An OR, as above.
         let nibbles = self.pins.iter().chain(&self.directions).fold(0, |all, nibble| all | nibble);
-        nibbles <= 15 && self.release <= 1
+        nibbles <= 15 && self.release <= 1 + u8::from(fault(fault::RELEASE_OF_TWO))
     }
 }
 

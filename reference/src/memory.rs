@@ -156,10 +156,11 @@ impl Machine {
     /// Closes a stack level, its place then 0, or gives refusal 7.
     #[inline(always)]
     pub(crate) fn pop(&mut self) -> Result<u16, u8> {
-        let Some(top) = self.levels.checked_sub(1) else {
+        // With no level open there is no such place.
+        let top = self.levels.wrapping_sub(1);
+        let Some(place) = self.stack.get_mut(usize::from(top)) else {
             return Err(7);
         };
-        let place = &mut self.stack[usize::from(top)];
         let address = *place;
         if !fault(fault::STACK_NOT_CLEARED) {
             *place = 0;

@@ -4,7 +4,7 @@
 use crate::execute::following;
 use crate::fault::{self, fault};
 use crate::isa::{decode, unsupported};
-use crate::machine::{rom_in_range, Input, Machine};
+use crate::machine::{rom_in_range, Input, Machine, ROM_WORDS};
 
 /// What a step answers.
 #[derive(Clone, Copy, Debug, PartialEq, Eq)]
@@ -51,7 +51,8 @@ pub fn step(rom: &[u16], machine: &mut Machine, input: &Input) -> Answer {
 /// At most `budget` steps with one input. The ranges are tested once: a step
 /// keeps the machine in range.
 pub fn run(rom: &[u16], machine: &mut Machine, input: &Input, budget: u32) -> Report {
-    if budget > MAX_BUDGET || !all_in_range(rom, machine, input) {
+    let most = MAX_BUDGET + u32::from(fault(fault::BUDGET_ONE_MORE));
+    if budget > most || !all_in_range(rom, machine, input) {
         return Report { steps: 0, refusal: 1 };
     }
     if budget == 0 {
@@ -78,7 +79,8 @@ pub fn run(rom: &[u16], machine: &mut Machine, input: &Input, budget: u32) -> Re
 
 /// Refusal 1 for a step or run, but for the budget.
 fn all_in_range(rom: &[u16], machine: &Machine, input: &Input) -> bool {
-    machine.in_range() && input.in_range() && rom_in_range(rom)
+    let one_more = fault(fault::ROM_ONE_MORE) && rom.len() == ROM_WORDS + 1;
+    machine.in_range() && input.in_range() && (rom_in_range(rom) || one_more)
 }
 
 /// A machine in standby moves on only with release 1.

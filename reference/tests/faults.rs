@@ -98,6 +98,16 @@ fn witness(fault: u32) -> String {
             file.resize(22, 0);
             format!("{:?}", station::read(&file))
         }
+        SKIPS_EXCHANGED => format!("{:?}", decode(0xC800)),
+        SIX_LEVELS => changed(|m| m.levels = 6, 0, &[word(Nop)]),
+        SKIP_OF_TWO => changed(|m| m.skip = 2, 0, &[word(Nop)]),
+        STANDBY_OF_TWO => changed(|m| m.standby = 2, 0, &[word(Nop)]),
+        PC_PAST_LAST => changed(|m| m.pc = 1024, 0, &[word(Nop)]),
+        RELEASE_OF_TWO => changed(|_| (), 2, &[word(Nop)]),
+        ROM_ONE_MORE => changed(|_| (), 0, &[word(Nop); 1025]),
+        BUDGET_ONE_MORE => {
+            format!("{:?}", run(&[word(Nop)], &mut Machine::reset(), &Input::default(), 65_536))
+        }
         _ => unreachable!("fault {fault}"),
     }
 }
