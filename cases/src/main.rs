@@ -51,7 +51,8 @@ fn programs() -> Box<dyn Bench> {
     Box::new(programs::Programs::new())
 }
 
-const KINDS: [Kind; 6] = [
+const KINDS: [Kind; 7] = [
+    Kind { name: "printed", bench: || Box::new(words::Words) },
     Kind { name: "words", bench: || Box::new(words::Words) },
     Kind { name: "data", bench: programs },
     Kind { name: "programs", bench: programs },

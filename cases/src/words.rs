@@ -1,4 +1,5 @@
-//! Words: the decoder and the encoder. The lines are told in data/words.cases.
+//! Words: the decoder and the encoder. The lines are told in data/words.cases
+//! and data/printed.cases.
 
 use reference::Instruction::{self, *};
 use reference::{Input, Machine};
@@ -122,11 +123,12 @@ impl Bench for Words {
         if line == "all" {
             return Ok(all(emulator));
         }
-        if !is_word(line) {
+        let printed = printed(line);
+        if printed.is_none() && !is_word(line) {
             let (number, word) = emulator.encode(Row::of(line)?);
             return Ok(format!("refusal {number}, word {word:04X}"));
         }
-        let word = word(line)?;
+        let word = printed.map_or_else(|| word(line), Ok)?;
         let row = if answer == "none" { None } else { Some(Row::of(answer)?) };
         if let Some(other) = emulator.decodes_else(word, row) {
             return Ok(other);
@@ -138,6 +140,15 @@ impl Bench for Words {
         }
         Ok(answer.to_string())
     }
+}
+
+/// A word in the bits of the manual's boxes: the opcode, then row, column and
+/// r or n4, or an address.
+fn printed(line: &str) -> Option<u16> {
+    let fields: Vec<usize> = line.split(' ').map(str::len).collect();
+    let is_box = matches!(fields[..], [5, 3, 4, 4] | [5, 11]);
+    let bits = is_box.then(|| line.replace(' ', ""))?;
+    u16::from_str_radix(&bits, 2).ok()
 }
 
 /// Is a word an instruction by the step?
