@@ -1,6 +1,8 @@
 -- What a step and a run answer, in the numbers of document 01, "Refusal numbers"; what is no refusal has a number here.
 -- Assumes nothing.
+use mathlib.Core.List.{List}
 use Prim.Native.Nat.{ℕ}
+use Rattle.machine.specs.Parts.{machineOf}
 use Rattle.machine.specs.Refusals.{numberOf}
 use Rattle.cpu.specs.Reply.{Reply, done, inStandby, refused, Step}
 use Rattle.cpu.specs.Run.{Run}
@@ -8,6 +10,7 @@ use Rattle.cpu.specs.declared.Answer.{Answer}
 use Rattle.cpu.specs.declared.Answer.the-variants.{Done, Standby, Refused}
 use Rattle.cpu.specs.declared.End.{End}
 use Rattle.cpu.specs.declared.End.the-variants as end
+use Rattle.cpu.specs.declared.Reached.{Reached}
 use Rattle.cpu.specs.declared.Stepped.{Stepped}
 use Rattle.cpu.specs.declared.Ran.{Ran}
 
@@ -24,6 +27,10 @@ replyNumber (refused n) = n
 
 abbrev pub stepOfStepped : Stepped → Step
 stepOfStepped s = record { reply = replyOf (s .answer); machine = s .machine }
+
+-- the same where the cells stand apart
+abbrev pub reachedStep : List ℕ → Reached → Step
+reachedStep cells r = record { reply = replyOf (r .answer); machine = machineOf cells (r .control) }
 
 -- the refusal that a run ended with, 0 for none
 abbrev pub endOf : End → ℕ

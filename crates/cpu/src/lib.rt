@@ -5,10 +5,12 @@ mod stepping;
 
 ghost use mathlib.Core.Path.{_≡_};
 ghost use Rattle.cpu.specs.Answers.{endOf, replyNumber, replyOf};
+use machine::Control;
 use machine::Machine;
 use machine::Refusal;
 pub use running::run;
 pub use running::step;
+pub use running::step_in_place;
 
 // What a step answers.
 pub enum Answer {
@@ -31,7 +33,15 @@ impl Answer {
     }
 }
 
-// The machine after steps up to a refusal, standby or the budget; how many of them were completed; and the last one's answer.
+// What steps up to a refusal, standby or the budget leave beside the cells; how many of them were completed; and the last one's
+// answer.
+pub struct Reached {
+    pub control: Control,
+    pub steps: u32,
+    pub answer: Answer,
+}
+
+// The machine after a step, the steps that it counts for, and its answer.
 pub struct Stepped {
     pub machine: Machine,
     pub steps: u32,

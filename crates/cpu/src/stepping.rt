@@ -5,7 +5,7 @@ ghost use mathlib.Core.Bool.{false, _&&_};
 ghost use Prim.Native.Nat.{ℕ};
 ghost use lib.Dec.{eqb};
 ghost use Rattle.memory.specs.Chip.{upd17132};
-ghost use Rattle.machine.specs.Parts.{isMarked};
+ghost use Rattle.machine.specs.Parts.{isMarked, machineOf};
 ghost use Rattle.control.specs.Control.{withStandby};
 ghost use Rattle.cpu.specs.Joined.{executedOf, fetchedOf, inputAt, wholeOf};
 ghost use Rattle.control.specs.Transfers.{withStack};
@@ -88,17 +88,23 @@ pub fn regs_of(c: Control) -> Regs
     }
 }
 
-pub fn join(cells: [u8; 128], stack: [u16; 5], regs: Regs) -> Machine
-    ensures { λ m. ⌜ m ≡ wholeOf cells stack regs ⌝ }
+pub fn control_of(stack: [u16; 5], regs: Regs) -> Control
+    ensures { λ c. ⌜ c ≡ withStack stack regs ⌝ }
+{
+    Control {
+        pc: regs.pc,
+        stack: stack,
+        levels: regs.levels,
+        skip: regs.skip,
+        standby: regs.standby,
+    }
+}
+
+pub fn join(cells: [u8; 128], control: Control) -> Machine
+    ensures { λ m. ⌜ m ≡ machineOf cells control ⌝ }
 {
     Machine {
         memory: Memory { cells: cells },
-        control: Control {
-            pc: regs.pc,
-            stack: stack,
-            levels: regs.levels,
-            skip: regs.skip,
-            standby: regs.standby,
-        },
+        control: control,
     }
 }

@@ -1,4 +1,4 @@
-// The step and the run by value, with the numbers that the entries answer.
+// The step by parts and the run by value, with the numbers that the entries answer.
 ghost use mathlib.Core.Path.{_≡_};
 ghost use Rattle.memory.specs.Chip.{upd17132};
 ghost use Rattle.cpu.specs.Run.{runOf};
@@ -12,35 +12,32 @@ use machine::Input;
 use machine::Machine;
 use memory::Memory;
 
-// The same machine. A record that is copied as a whole, as bytes, waits for the stores of its single fields; that counts in a
+// The same control part. One that is copied as a whole, as bytes, waits for the stores of its single fields; that counts in a
 // single step, and not in a run.
-fn by_fields(machine: Machine) -> Machine
-    ensures { λ r. ⌜ r ≡ machine ⌝ }
+fn by_fields(control: Control) -> Control
+    ensures { λ r. ⌜ r ≡ control ⌝ }
 {
-    let memory = machine.memory;
-    let control = machine.control;
-    let cells = memory.cells;
     let stack = control.stack;
-    Machine {
-        memory: Memory { cells: cells },
-        control: Control {
-            pc: control.pc,
-            stack: stack,
-            levels: control.levels,
-            skip: control.skip,
-            standby: control.standby,
-        },
+    Control {
+        pc: control.pc,
+        stack: stack,
+        levels: control.levels,
+        skip: control.skip,
+        standby: control.standby,
     }
 }
 
-pub fn step_by_value(rom: &[u16], machine: Machine, input: Input) -> LentStep
-    ensures { λ r. ⌜ r ≡ lentStepOf (stepOf upd17132 (now (rom .entry)) input machine) ⌝ }
+pub fn step_by_parts(rom: &[u16], memory: Memory, control: Control, input: Input) -> LentStep
+    ensures { λ r. ⌜ r ≡ lentStepOf (stepOf upd17132 (now (rom .entry)) input (record { memory = memory; control = control })) ⌝ }
 {
-    let s = cpu::step(rom, machine, input);
-    let after = s.machine;
+    let mut cells = memory.cells;
+    let s = cpu::step_in_place(rom, &mut cells, by_fields(control), input);
     let answer = s.answer;
     LentStep {
-        machine: by_fields(after),
+        machine: Machine {
+            memory: Memory { cells: cells },
+            control: by_fields(s.control),
+        },
         number: answer.number(),
     }
 }

@@ -25,7 +25,7 @@ ghost use Rattle.transcript.specs.Transcript.{transcriptOf};
 ghost use Rattle.pollwezen.specs.Lent.{lentRun, lentRunOf, lentStep, lentStepOf};
 ghost use Rattle.pollwezen.specs.Replies.{printReplyOf, readReplyOf, verdictReplyOf, writeReplyOf};
 use calls::run_by_value;
-use calls::step_by_value;
+use calls::step_by_parts;
 use listing::DecodedRow;
 use listing::EncodedRow;
 use machine::Input;
@@ -89,7 +89,7 @@ pub extern "C" fn pollwezen_step(rom: &[u16], machine: &mut Machine, input: Inpu
     ensures { λ r. ⌜ (lentStep (now (machine .exit)) r ≡ lentStepOf (stepOf upd17132 (now (rom .entry)) input (now (machine .entry))))
         × ((r ≡ 0 → ⊥) → (r ≡ 255 → ⊥) → now (machine .exit) ≡ now (machine .entry)) ⌝ }
 {
-    let s = step_by_value(rom, *machine, input);
+    let s = step_by_parts(rom, machine.memory, machine.control, input);
     *machine = s.machine;
     s.number
 }

@@ -1,6 +1,6 @@
 use Rattle.machine.proofs.Marks.{is-marked, not-marked}
 use mathlib.Core.Path.{_≡_, sym, _∙_, ap, subst}
-use mathlib.Core.Bool.{true, false, _&&_}
+use mathlib.Core.Bool.{Bool, true, false, _&&_}
 use mathlib.Core.List.{List}
 use Prim.Native.Nat.{ℕ, _-_}
 use native.Mathlib.Omega.{arith}
@@ -20,28 +20,32 @@ use Rattle.cpu.proofs.Loop.{Going, Ends, not-so-many, not-in-range, sta
 use Rattle.cpu.proofs.running.go.Statement.{statement}
 use Rattle.cpu.proofs.running.go.Tie as tie
 
+-- what the range test answered for the record put together, it answered for the record
+tested : (rom : List ℕ) (input : Input) (m joined : Machine) {b : Bool} → joined ≡ m → b ≡ allInRange upd17132 rom joined input → allInRange upd17132 rom m input ≡ b
+tested rom input m joined e r = ap (λ (x : Machine). allInRange upd17132 rom x input) (sym e) ∙ sym r
+
 abbrev Inv-loop : tie.InvT-loop
-Inv-loop rom budget cells₀ stack₀ regs₀ pins directions steps₀ cells stack regs steps = (release : ℕ) → allInRange upd17132 rom (wholeOf cells₀ stack₀ regs₀) (inputAt pins directions release) ≡ true → (isMarked (regs₀ .standby) && eqb release 0) ≡ false → Going upd17132 rom (inputAt pins directions release) budget (wholeOf cells₀ stack₀ regs₀) steps (wholeOf cells stack regs)
+Inv-loop rom cells₀ budget stack₀ regs₀ pins directions steps₀ cells stack regs steps = (release : ℕ) → allInRange upd17132 rom (wholeOf cells₀ stack₀ regs₀) (inputAt pins directions release) ≡ true → (isMarked (regs₀ .standby) && eqb release 0) ≡ false → Going upd17132 rom (inputAt pins directions release) budget (wholeOf cells₀ stack₀ regs₀) steps (wholeOf cells stack regs)
 
 abbrev μ-loop : tie.MeasureT-loop
-μ-loop rom budget cells₀ stack₀ regs₀ pins directions steps₀ cells stack regs steps = budget - steps
+μ-loop rom cells₀ budget stack₀ regs₀ pins directions steps₀ cells stack regs steps = budget - steps
 
 -- at the loop's head
 module _ (h : tie.At-loop Inv-loop μ-loop) where
   abbrev rom : List ℕ
-  rom = h .before .before .before .before .before .before .before .before .before .before .before .before .before .before .args .rom .now
+  rom = h .before .before .before .before .before .before .before .before .before .before .before .before .before .args .rom .now
 
   abbrev input : Input
-  input = h .before .before .before .before .before .before .before .before .before .before .before .before .before .before .args .input
+  input = h .before .before .before .before .before .before .before .before .before .before .before .before .before .args .input
 
   abbrev machine : Machine
-  machine = h .before .before .before .before .before .before .before .before .before .before .before .before .before .before .args .machine
+  machine = machineOf (h .before .before .before .before .before .before .before .before .before .before .before .before .before .args .cells .now) (h .before .before .before .before .before .before .before .before .before .before .before .before .before .args .control)
 
   abbrev budget : ℕ
-  budget = h .before .before .before .before .before .before .before .before .before .before .before .before .before .before .args .budget
+  budget = h .before .before .before .before .before .before .before .before .before .before .before .before .before .args .budget
 
   abbrev start : Machine
-  start = wholeOf (machine .memory .cells) (machine .control .stack) (h .before .before .before .before .before .regs-of .result)
+  start = wholeOf (cellsOf machine) (machine .control .stack) (h .before .before .before .before .before .regs-of .result)
 
   abbrev here : Machine
   here = wholeOf (h .loop .cells) (h .loop .stack) (h .loop .regs)
@@ -52,7 +56,7 @@ module _ (h : tie.At-loop Inv-loop μ-loop) where
   passed : allInRange upd17132 rom start input ≡ true
   passed =
       subst (λ (m : Machine). allInRange upd17132 rom m input ≡ true) (sym whole)
-      (sym (h .before .before .before .before .before .before .before .before .before .before .before .all .ensures) ∙ not-false _ (h .before .before .before .before .before .before .before .before .before .before .if2 .left))
+      (tested _ _ _ _ (h .before .before .before .before .before .before .before .before .before .join .ensures) (h .before .before .before .before .before .before .before .before .all .ensures) ∙ not-false _ (h .before .before .before .before .before .before .before .if2 .left))
 
   head : Going upd17132 rom input budget start (h .loop .steps) here
   head = h .loop .inv (input .release) passed (sym (h .before .before .before .before .stays-standing .ensures) ∙ h .before .before .before .if3 .left)
@@ -67,15 +71,15 @@ returns c =
 
 returns-2 : tie.Need-returns-2 Inv-loop μ-loop
 returns-2 c =
-    let e = not-in-range _ _ _ _ _ (sym (c .before .before .all .ensures) ∙ not-true _ (c .before .if2 .taken)) in
+    let e = not-in-range _ _ _ _ _ (tested _ _ _ _ (c .before .before .before .join .ensures) (c .before .before .all .ensures) ∙ not-true _ (c .before .if2 .taken)) in
     rw (c .so-far2 .ensures) (e .run, (e .step, e .cost))
 
 returns-3 : tie.Need-returns-3 Inv-loop μ-loop
 returns-3 c =
-    let s = c .before .before .before .before .before .before .before .before .before .before .before .before .args in
-    let stand : (isMarked (s .machine .control .standby) && eqb (s .input .release) 0) ≡ true
+    let s = c .before .before .before .before .before .before .before .before .before .before .before .args in
+    let stand : (isMarked (s .control .standby) && eqb (s .input .release) 0) ≡ true
     = ap (λ (k : Control). isMarked (k .standby) && eqb (s .input .release) 0) (sym (c .before .before .before .regs-of .ensures)) ∙ sym (c .before .before .stays-standing .ensures) ∙ c .before .if3 .taken in
-    let e = stays-so upd17132 (s .rom .now) (s .input) (s .budget) (s .machine) (omega arith) (sym (c .before .before .before .before .before .before .before .before .before .all .ensures) ∙ not-false _ (c .before .before .before .before .before .before .before .before .if2 .left)) stand in
+    let e = stays-so upd17132 (s .rom .now) (s .input) (s .budget) (machineOf (s .cells .now) (s .control)) (omega arith) (tested _ _ _ _ (c .before .before .before .before .before .before .before .join .ensures) (c .before .before .before .before .before .before .all .ensures) ∙ not-false _ (c .before .before .before .before .before .if2 .left)) stand in
     rw (c .so-far3 .ensures) (e .run, (e .step, e .cost))
 
 loop-holds : tie.Need-loop-holds Inv-loop μ-loop
@@ -83,9 +87,9 @@ loop-holds c = λ release fine awake. begun _ _ _ _ _ (omega arith) fine awake
 
 returns-4 : tie.Need-returns-4 Inv-loop μ-loop
 returns-4 c =
-    let h = c .before .before .before .before .before .before .before .before .before .before .before .before .before in
+    let h = c .before .before .before .before .before .before .before .before .before .before .before .before .before  in
     let e = ends h _ _ _ (stood _ _ _ _ _ _ _ (head h) (c .before .before .before .before .before .before .before .before .before .before .before .before .loop-test .taken) _ (rw (c .before .before .before .before .before .next .given .1) at (c .before .before .before .before .before .before .before .advance .ensures (input h .release) (head h .awake))) (is-marked _ (c .before .before .if4 .taken))) in
-    rw (c .so-far4 .ensures, c .before .join .ensures) (e .run, (e .step, e .cost))
+    rw (c .so-far4 .ensures, c .before .control-of .ensures) (e .run, (e .step, e .cost))
 
 loop-less : tie.Need-loop-less Inv-loop μ-loop
 loop-less c = omega arith
@@ -97,15 +101,15 @@ loop-again c = λ release fine awake.
 
 returns-5 : tie.Need-returns-5 Inv-loop μ-loop
 returns-5 c =
-    let h = c .before .before .before .before .before .before .before .before .before .before .before in
+    let h = c .before .before .before .before .before .before .before .before .before .before .before  in
     let e = ends h _ _ _ (refuses _ _ _ _ _ _ _ (head h) (c .before .before .before .before .before .before .before .before .before .before .loop-test .taken) _ _ (rw (c .before .before .before .refusal .given .1) at (c .before .before .before .before .before .advance .ensures (input h .release) (head h .awake)))) in
-    rw (c .so-far5 .ensures, c .before .join2 .ensures) (e .run, (e .step, e .cost))
+    rw (c .so-far5 .ensures, c .before .control-of2 .ensures) (e .run, (e .step, e .cost))
 
 returns-6 : tie.Need-returns-6 Inv-loop μ-loop
 returns-6 c =
-    let h = c .before .before .before in
+    let h = c .before .before .before  in
     let e = ends h _ _ _ (used _ _ _ _ _ _ _ (head h) (c .before .before .loop-test .left)) in
-    rw (c .so-far6 .ensures, c .before .join3 .ensures) (e .run, (e .step, e .cost))
+    rw (c .so-far6 .ensures, c .before .control-of3 .ensures) (e .run, (e .step, e .cost))
 
 pub go-spec : {M : Type 1} → statement M
 go-spec =
@@ -115,6 +119,7 @@ go-spec =
     μ-loop
     (λ c κs. search needs)
     returns
+    (λ c κs. search needs)
     (λ c κs. search needs)
     (λ c κs. search needs)
     returns-2
