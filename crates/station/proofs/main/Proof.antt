@@ -2,26 +2,28 @@ use mathlib.Core.Path.{sym, subst}
 use Prim.Native.Nat.{_≤_}
 use lib.ListN.{length}
 use lib.Seq.{length-take-le}
-use Rattle.station.specs.Input.{Within}
-use Rattle.station.specs.declared.input.Input.{Input}
 use borrow.Author.Needs.{needs}
+use Rattle.streams.specs.Meaning.{Within}
+use Rattle.streams.specs.declared.Input.{Input}
 use Rattle.station.proofs.main.Statement.{statement}
 use Rattle.station.proofs.main.Tie as tie
 
 -- the input lies within the buffer
-inside : (c : tie.After-n) → c .n .given .0 .0 ≤ length (c .before .before .before .read-input .last .0)
-inside c = subst (λ (r : Input). Within r (c .before .before .before .read-input .last .0)) (c .n .given .1) (c .before .before .before .read-input .ensures)
+inside : (c : tie.After-n) → c .n .given .0 .0 ≤ length (c .before .before .before .read-all .last .1 .0)
+inside c =
+    subst (λ (r : Input). Within r (length (c .before .before .before .read-all .last .1 .0))) (c .n .given .1) (c .before .before .before .read-all .ensures)
 
-array-share-prefix-file : tie.Need-array-share-prefix-file
-array-share-prefix-file c = inside (c .before)
+slice-aggregate-put-text : tie.Need-slice-aggregate-put-text
+slice-aggregate-put-text c = sym (length-take-le _ _ (inside (c .before .before)))
 
-slice-aggregate-show : tie.Need-slice-aggregate-show
-slice-aggregate-show c = sym (length-take-le _ _ (inside (c .before .before)))
+put-text-requires : tie.Need-put-text-requires
+put-text-requires c κs = search needs
 
 pub main-spec : {M : Type 1} → statement M
 main-spec =
     tie.close
     (tie.spec
+    (λ c κs. search needs)
     (λ c. search needs)
     (λ c κs. search needs)
     (λ c. search needs)
@@ -29,8 +31,11 @@ main-spec =
     (λ c. search needs)
     (λ c κs. search needs)
     (λ c. search needs)
-    array-share-prefix-file
-    slice-aggregate-show
+    (λ c. inside (c .before))
+    slice-aggregate-put-text
+    (λ c. search needs)
+    put-text-requires
+    (λ c. search needs)
     (λ c. search needs)
     (λ c κs. search needs)
     (λ c. search needs))
