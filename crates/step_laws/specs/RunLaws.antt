@@ -44,6 +44,7 @@ module _ (chip : Chip) (rom : List ℕ) (input : Input) where
     pub next : (n : ℕ) → (run n m .refusal ≡ 1 → ⊥) → (run n m .refusal ≡ 0 → ⊥)
         → stepOf chip rom input (run n m .machine) ≡ refusedStep (run n m .refusal) (run n m .machine)
     -- a run of n + k is a run of n followed by a run of k, where the first completes n steps, and n is 0 or the machine does
-    -- not stand after it, so that it ended at its budget
+    -- not stand after it, so that it ended at its budget. At release 0 a standing machine would do as well, since its steps
+    -- change nothing; it is left out, since with document 02's E4 they move the timer
     pub joined : (n k : ℕ) → n + k ≤ 65535 → run n m .steps ≡ n → (n ≡ 0) ⊎ (isStanding (run n m .machine) ≡ false)
         → run (n + k) m ≡ after n (run k (run n m .machine))
