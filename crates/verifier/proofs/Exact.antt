@@ -59,16 +59,23 @@ module _ (chip : Chip) (rom sheet : List ℕ) where
   passes true false c w r p q s e = absurd (let z : _≡_ {A = ℕ} 0 1 = cc in omega arith)
   passes false b c w r p q s e = absurd (let z : _≡_ {A = ℕ} 0 1 = cc in omega arith)
 
+  -- where these hold each test of the check passes
+  module _ (c : Clear chip rom sheet) where
+    rom-fits : romInRange chip rom ≡ true
+    rom-fits = c .whole
+
+    sheet-fits : eqb (length sheet) (length rom) ≡ true
+    sheet-fits = eq-eqb (length sheet) (length rom) (c .fitting)
+
+    no-word-fails : ltb (lowestWord chip rom sheet) (length rom) ≡ false
+    no-word-fails =
+        not-passed (ltb (lowestWord chip rom sheet) (length rom)) (λ q. none-fails (c .rules) (ltb (lowestWord chip rom sheet) (length rom)) refl q)
+
   pub exactly : Exactly chip rom sheet
   unfolding verifyOf ruled
   exactly = (
     (λ e.
         passes (romInRange chip rom) (eqb (length sheet) (length rom)) (ltb (lowestWord chip rom sheet) (length rom))
         (lowestWord chip rom sheet) (lowestRule chip rom sheet (lowestWord chip rom sheet)) refl refl refl e),
-    (λ c.
-        rw (
-          c .whole,
-          eq-eqb (length sheet) (length rom) (c .fitting),
-          not-passed (ltb (lowestWord chip rom sheet) (length rom)) (λ q. none-fails (c .rules) (ltb (lowestWord chip rom sheet) (length rom)) refl q),
-        )),
+    (λ c. rw (rom-fits c, sheet-fits c, no-word-fails c)),
   )
