@@ -87,7 +87,7 @@ loop-holds c = λ release fine awake. begun _ _ _ _ _ (omega arith) fine awake
 
 returns-4 : tie.Need-returns-4 Inv-loop μ-loop
 returns-4 c =
-    let h = c .before .before .before .before .before .before .before .before .before .before .before .before .before  in
+    let h = c .before .before .before .before .before .before .before .before .before .before .before .before .before in
     let e = ends h _ _ _ (stood _ _ _ _ _ _ _ (head h) (c .before .before .before .before .before .before .before .before .before .before .before .before .loop-test .taken) _ (rw (c .before .before .before .before .before .next .given .1) at (c .before .before .before .before .before .before .before .advance .ensures (input h .release) (head h .awake))) (is-marked _ (c .before .before .if4 .taken))) in
     rw (c .so-far4 .ensures, c .before .control-of .ensures) (e .run, (e .step, e .cost))
 
@@ -101,13 +101,13 @@ loop-again c = λ release fine awake.
 
 returns-5 : tie.Need-returns-5 Inv-loop μ-loop
 returns-5 c =
-    let h = c .before .before .before .before .before .before .before .before .before .before .before  in
+    let h = c .before .before .before .before .before .before .before .before .before .before .before in
     let e = ends h _ _ _ (refuses _ _ _ _ _ _ _ (head h) (c .before .before .before .before .before .before .before .before .before .before .loop-test .taken) _ _ (rw (c .before .before .before .refusal .given .1) at (c .before .before .before .before .before .advance .ensures (input h .release) (head h .awake)))) in
     rw (c .so-far5 .ensures, c .before .control-of2 .ensures) (e .run, (e .step, e .cost))
 
 returns-6 : tie.Need-returns-6 Inv-loop μ-loop
 returns-6 c =
-    let h = c .before .before .before  in
+    let h = c .before .before .before in
     let e = ends h _ _ _ (used _ _ _ _ _ _ _ (head h) (c .before .before .loop-test .left)) in
     rw (c .so-far6 .ensures, c .before .control-of3 .ensures) (e .run, (e .step, e .cost))
 
