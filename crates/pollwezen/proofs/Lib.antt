@@ -2,3 +2,4 @@ pub mod Behind
 pub mod Kept
 pub mod Checks
 pub mod RepliesApart
+pub mod Promises
