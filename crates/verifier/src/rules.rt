@@ -105,8 +105,8 @@ fn call_allowed(rom: &[u16], sheet: &[u8], depths: [bool; 6], word: u16, to: u16
     if !shares_any(depths, higher) {
         return true;
     }
-    let after = next(word);
-    is_met(rom, sheet, next(after), entry)
+    let back = next(word);
+    is_met(rom, sheet, next(back), entry)
 }
 
 // Rule 5.
