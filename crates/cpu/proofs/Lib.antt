@@ -6,3 +6,4 @@ pub mod ArFits
 pub mod Turns
 pub mod Loop
 pub mod Settled
+pub mod Promises
