@@ -104,11 +104,11 @@ pub fn step(rom: &[u16], machine: Machine, input: Input) -> Stepped
 {
     let memory = machine.memory;
     let mut cells = memory.cells;
-    let last = go(rom, &mut cells, machine.control, input, 1);
-    let answer = last.answer;
+    let one = go(rom, &mut cells, machine.control, input, 1);
+    let answer = one.answer;
     Stepped {
-        machine: join(cells, last.control),
-        steps: last.steps,
+        machine: join(cells, one.control),
+        steps: one.steps,
         answer: answer,
     }
 }

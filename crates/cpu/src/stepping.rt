@@ -88,15 +88,15 @@ pub fn regs_of(c: Control) -> Regs
     }
 }
 
-pub fn control_of(stack: [u16; 5], regs: Regs) -> Control
-    ensures { λ c. ⌜ c ≡ withStack stack regs ⌝ }
+pub fn control_of(stack: [u16; 5], r: Regs) -> Control
+    ensures { λ c. ⌜ c ≡ withStack stack r ⌝ }
 {
     Control {
-        pc: regs.pc,
+        pc: r.pc,
         stack: stack,
-        levels: regs.levels,
-        skip: regs.skip,
-        standby: regs.standby,
+        levels: r.levels,
+        skip: r.skip,
+        standby: r.standby,
     }
 }
 
