@@ -7,7 +7,7 @@ ghost use Rattle.transcript.specs.Transcript.{transcriptOf};
 use libc::STDERR_FILENO;
 use libc::STDIN_FILENO;
 use libc::STDOUT_FILENO;
-use streams::Input;
+use streams::Received;
 use transcript::Printed;
 
 // Puts the file's text at the front of a buffer that is never too short, and answers its length.
@@ -40,7 +40,7 @@ fn show(text: &[u8]) {
 
 fn main() {
     let mut file = streams::file_buffer();
-    let Input::Bytes(n) = streams::read_all(STDIN_FILENO, &mut file) else {
+    let Received::Bytes(n) = streams::read_all(STDIN_FILENO, &mut file) else {
         io::write_all(STDERR_FILENO, b"station: standard input cannot be read\n");
         return;
     };

@@ -8,8 +8,8 @@ use lib.IntN.{ℤ, pos, negsuc}
 use Rattle.libc.specs.Io.{Moved}
 use Rattle.streams.specs.declared.Meaning.{Meaning}
 use Rattle.streams.specs.declared.Meaning.the-variants as meaning
-use Rattle.streams.specs.declared.Input.{Input}
-use Rattle.streams.specs.declared.Input.the-variants as input
+use Rattle.streams.specs.declared.Received.{Received}
+use Rattle.streams.specs.declared.Received.the-variants as received
 
 -- the answer to a call for the bytes from a place on of so many: negative where it failed, else how many it moved
 unfoldable pub meaningOf : ℤ → ℕ → ℕ → Meaning
@@ -26,6 +26,6 @@ pub record Means (at room : ℕ) (r : Meaning) : Type 0 where
   pub means : r ≡ meaningOf answer at room
 
 -- an input that was read lies in the buffer
-abbrev pub Within : Input → ℕ → Type 0
-Within (input.Bytes n) room = n ≤ room
-Within input.Failed room = Unit {0}
+abbrev pub Within : Received → ℕ → Type 0
+Within (received.Bytes n) room = n ≤ room
+Within received.Failed room = Unit {0}

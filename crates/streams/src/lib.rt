@@ -20,7 +20,7 @@ pub enum Meaning {
 }
 
 // How many bytes an input has, as far as there is room.
-pub enum Input {
+pub enum Received {
     Bytes(usize),
     Failed,
 }

@@ -4,8 +4,8 @@ ghost use Prim.Native.Nat.{_+_, _<_};
 ghost use lib.ListN.{length, take};
 ghost use Rattle.station_file.specs.Station.{longest};
 ghost use Rattle.streams.specs.Meaning.{Means, Within};
-use crate::Input;
 use crate::Meaning;
+use crate::Received;
 use crate::answer::interpret;
 
 const FILE_ROOM: usize = 48126;
@@ -29,7 +29,7 @@ fn read_some(fd: i32, buffer: &mut [u8], at: usize) -> Meaning
 }
 
 // Reads until the buffer is full, the input ends or a read fails.
-pub fn read_all(fd: i32, buffer: &mut [u8]) -> Input
+pub fn read_all(fd: i32, buffer: &mut [u8]) -> Received
     ensures { λ r. ⌜ Within r (length (now (buffer .exit))) ⌝ }
 {
     let mut at: usize = 0;
@@ -39,15 +39,15 @@ pub fn read_all(fd: i32, buffer: &mut [u8]) -> Input
                 at = next;
             }
             Meaning::Full(n) => {
-                return Input::Bytes(n);
+                return Received::Bytes(n);
             }
             Meaning::End(n) => {
-                return Input::Bytes(n);
+                return Received::Bytes(n);
             }
             Meaning::Failed(_) => {
-                return Input::Failed;
+                return Received::Failed;
             }
         }
     }
-    Input::Bytes(at)
+    Received::Bytes(at)
 }
