@@ -26,6 +26,6 @@ pub record Means (at room : ℕ) (r : Meaning) : Type 0 where
   pub means : r ≡ meaningOf answer at room
 
 -- an input that was read lies in the buffer
-abbrev pub Within : Received → ℕ → Type 0
-Within (received.Bytes n) room = n ≤ room
-Within received.Failed room = Unit {0}
+abbrev pub InRoom : Received → ℕ → Type 0
+InRoom (received.Bytes n) room = n ≤ room
+InRoom received.Failed room = Unit {0}

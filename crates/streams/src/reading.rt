@@ -3,7 +3,7 @@ ghost use mathlib.Core.Path.{_≡_};
 ghost use Prim.Native.Nat.{_+_, _<_};
 ghost use lib.ListN.{length, take};
 ghost use Rattle.station_file.specs.Station.{longest};
-ghost use Rattle.streams.specs.Meaning.{Means, Within};
+ghost use Rattle.streams.specs.Meaning.{Means, InRoom};
 use crate::Meaning;
 use crate::Received;
 use crate::answer::interpret;
@@ -30,7 +30,7 @@ fn read_some(fd: i32, buffer: &mut [u8], at: usize) -> Meaning
 
 // Reads until the buffer is full, the input ends or a read fails.
 pub fn read_all(fd: i32, buffer: &mut [u8]) -> Received
-    ensures { λ r. ⌜ Within r (length (now (buffer .exit))) ⌝ }
+    ensures { λ r. ⌜ InRoom r (length (now (buffer .exit))) ⌝ }
 {
     let mut at: usize = 0;
     while at < buffer.len() {
