@@ -16,7 +16,7 @@ use Rattle.cpu.specs.Run.{runOf}
 use Rattle.cpu.specs.Step.{stepOf}
 use Rattle.clearance.specs.Rules.{flowAt}
 
--- "in each form that they have": the record by value, or lent and left changed
+-- "in each form that they have": the record by value, or lent, whole or its cells alone, and left changed
 pub data CallForm : Type 0 where
   byValue : CallForm
   inPlace : CallForm
