@@ -18,10 +18,13 @@ use Rattle.machine.specs.Parts.{isMarked, resetMachine}
 use Rattle.machine.specs.Ranges.{controlInRange, marksInRange, machineInRange, inputInRange, romInRange, allInRange, budgetInRange}
 use Rattle.machine.specs.declared.Input.{Input}
 use Rattle.machine.specs.declared.Machine.{Machine}
-use Rattle.cpu.specs.Reply.{costOf, Step, refusedStep}
+use Rattle.cpu.specs.Cost.{nextCycles, none, stepCost}
+use Rattle.cpu.specs.Reply.{Step, refusedStep}
 use Rattle.cpu.specs.Run.{Run, ended, runFrom, runOf}
 use Rattle.cpu.specs.Step.{stepOf}
+use Rattle.cpu.specs.declared.Count.{Count}
 use Rattle.cpu.proofs.ArFits.{ar-fits}
+use Rattle.cpu.proofs.Costs.{cost-below}
 use Rattle.cpu.proofs.Ranged.{steps}
 use Rattle.cpu.proofs.Turns.{all-of, step-refused}
 use Rattle.clearance.specs.Calls.{HostCall, step, run, CallForm, ownInRange, Tally, noCalls, afterReply, runTally, refusalAt, leftBy, tallyAfter}
@@ -30,7 +33,7 @@ use Rattle.clearance.specs.Safe.{Moment, Allowed, Within, During, Good, 
 use Rattle.clearance.proofs.Paths.{OnPath}
 use Rattle.clearance.proofs.Ruled.{Cleared, Stands}
 use Rattle.clearance.proofs.Steps.{Fair, stepped}
-use Rattle.clearance.proofs.Walks.{Stage, oneStep, walk, onFrom, nothing-left, goes-on, stops, first-step, spent, reaches, cost-below}
+use Rattle.clearance.proofs.Walks.{Stage, oneStep, walk, onFrom, nothing-left, more, goes-on, stops, first-step, spent, reaches}
 
 module _ (chip : Chip) (rom sheet : List ℕ) (g : Cleared chip rom sheet) where
   -- what holds of the record between any two steps
@@ -54,7 +57,7 @@ module _ (chip : Chip) (rom sheet : List ℕ) (g : Cleared chip rom sheet) where
     own m r = rw (r, g .whole) (and-true (inputInRange i))
 
     run-is : (budget : ℕ) (m : Machine) → machineInRange chip m ≡ true → (b : Bool) → (inputInRange i && budgetInRange budget) ≡ b
-        → runOf chip rom i budget m ≡ cond b (runFrom chip rom i budget 0 m) (ended 0 1 m)
+        → runOf chip rom i budget m ≡ cond b (runFrom chip rom i budget none m) (ended none 1 m)
     unfolding runOf
     run-is budget m r b e = rw (own m r, e)
 
@@ -71,41 +74,41 @@ module _ (chip : Chip) (rom sheet : List ℕ) (g : Cleared chip rom sheet) where
       kept-by-steps (suc k) s v = kept-by-step (walk chip rom i k s) (kept-by-steps k s v)
 
       -- how a run ends
-      pub record Ends (left n : ℕ) (s : Stage chip rom i) : Type 0 where
+      pub record Ends (left : ℕ) (c : Count) (s : Stage chip rom i) : Type 0 where
         pub count : ℕ
         pub few : count ≤ left
-        pub counted : (runFrom chip rom i left n (s .machine)) .steps ≡ n + count
-        pub answered : (runFrom chip rom i left n (s .machine)) .refusal ≡ 0
-        pub after : Inv ((runFrom chip rom i left n (s .machine)) .machine) ((walk chip rom i count s) .tally)
+        pub counted : (runFrom chip rom i left c (s .machine)) .count .steps ≡ c .steps + count
+        pub answered : (runFrom chip rom i left c (s .machine)) .refusal ≡ 0
+        pub after : Inv ((runFrom chip rom i left c (s .machine)) .machine) ((walk chip rom i count s) .tally)
 
-      ends : (left n : ℕ) (s : Stage chip rom i) (b : Bool) → onFrom chip rom i (s .machine) ≡ b → Holds s → Ends left n s
-      ends zero n s b e v =
-          let q = nothing-left chip rom i n (s .machine) in
+      ends : (left : ℕ) (c : Count) (s : Stage chip rom i) (b : Bool) → onFrom chip rom i (s .machine) ≡ b → Holds s → Ends left c s
+      ends zero c s b e v =
+          let q = nothing-left chip rom i c (s .machine) in
           record {
             count = 0;
             few = omega arith;
-            counted = ap (λ (r : Run). r .steps) q ∙ omega arith;
+            counted = ap (λ (r : Run). r .count .steps) q ∙ omega arith;
             answered = ap (λ (r : Run). r .refusal) q;
             after = rw q v;
           }
-      ends (suc l) n s true e v =
-          let x = ends l (n + 1) (oneStep chip rom i s) (onFrom chip rom i ((oneStep chip rom i s) .machine)) refl (kept-by-step s v) in
-          let q = goes-on chip rom i l n (s .machine) e in
+      ends (suc l) c s true e v =
+          let x = ends l (more chip rom i (s .machine) c) (oneStep chip rom i s) (onFrom chip rom i ((oneStep chip rom i s) .machine)) refl (kept-by-step s v) in
+          let q = goes-on chip rom i l c (s .machine) e in
           record {
             count = suc (x .count);
             few = omega (arith, x .few);
-            counted = ap (λ (r : Run). r .steps) q ∙ omega (arith, x .counted);
+            counted = ap (λ (r : Run). r .count .steps) q ∙ omega (arith, x .counted);
             answered = ap (λ (r : Run). r .refusal) q ∙ x .answered;
             after = rw q (subst (Inv _) (ap (λ (y : Stage chip rom i). y .tally) (sym (first-step chip rom i (x .count) s))) (x .after));
           }
-      ends (suc l) n s false e v =
-          let q = stops chip rom i l n (s .machine) e in
+      ends (suc l) c s false e v =
+          let q = stops chip rom i l c (s .machine) e in
           record {
-            count = costOf ((S (s .machine)) .reply) .steps;
-            few = omega (arith, cost-below ((S (s .machine)) .reply));
-            counted = ap (λ (r : Run). r .steps) q;
+            count = stepCost chip rom i (s .machine) .steps;
+            few = omega (arith, cost-below ((S (s .machine)) .reply) (nextCycles rom (s .machine)));
+            counted = ap (λ (r : Run). r .count .steps) q;
             answered = ap (λ (r : Run). r .refusal) q ∙ fair (s .machine) (s .tally) v .answered;
-            after = rw (q, ← spent chip rom i s ((S (s .machine)) .reply) refl) (kept-by-step s v);
+            after = rw (q, ← spent chip rom i s ((S (s .machine)) .reply) (nextCycles rom (s .machine)) refl) (kept-by-step s v);
           }
 
       -- a run whose budget is in range too
@@ -113,27 +116,27 @@ module _ (chip : Chip) (rom sheet : List ℕ) (g : Cleared chip rom sheet) where
         abbrev start : Stage chip rom i
         start = record { machine = m; tally = t }
 
-        ending : Ends budget 0 start
-        ending = ends budget 0 start (onFrom chip rom i m) refl v
+        ending : Ends budget none start
+        ending = ends budget none start (onFrom chip rom i m) refl v
 
-        runs : (k : ℕ) → k ≤ budget → runOf chip rom i k m ≡ runFrom chip rom i k 0 m
+        runs : (k : ℕ) → k ≤ budget → runOf chip rom i k m ≡ runFrom chip rom i k none m
         unfolding budgetInRange
         runs k h = run-is k m (v .ranged) true (rw (fine, le-leb k 65535 (omega (arith, leb-true budget 65535 small))))
 
-        whole-run : runOf chip rom i budget m ≡ runFrom chip rom i budget 0 m
+        whole-run : runOf chip rom i budget m ≡ runFrom chip rom i budget none m
         whole-run = runs budget (omega arith)
 
         unrefused : (runOf chip rom i budget m) .refusal ≡ 0
         unrefused = ap (λ (r : Run). r .refusal) whole-run ∙ ending .answered
 
-        completed : (runOf chip rom i budget m) .steps ≡ ending .count
-        completed = ap (λ (r : Run). r .steps) whole-run ∙ omega (arith, ending .counted)
+        completed : (runOf chip rom i budget m) .count .steps ≡ ending .count
+        completed = ap (λ (r : Run). r .count .steps) whole-run ∙ omega (arith, ending .counted)
 
         -- the run of no more steps than it completes, and the tally then
         there : (k : ℕ) → k ≤ ending .count → (runOf chip rom i k m) .machine ≡ (walk chip rom i k start) .machine
         there k h =
             ap (λ (r : Run). r .machine) (runs k (omega (arith, ending .few)))
-            ∙ reaches chip rom i budget k 0 start (onFrom chip rom i m) refl (omega (arith, ending .counted))
+            ∙ reaches chip rom i budget k none start (onFrom chip rom i m) refl (omega (arith, ending .counted))
 
         then : (k : ℕ) → k ≤ ending .count → runTally chip rom i k m t ≡ (walk chip rom i k start) .tally
         unfolding runTally
@@ -146,12 +149,12 @@ module _ (chip : Chip) (rom sheet : List ℕ) (g : Cleared chip rom sheet) where
             let h : k ≤ ending .count = omega (arith, completed) in
             moment _ _ (rw (there k h, then k h) (kept-by-steps k start v))
 
-        ran : Inv ((runOf chip rom i budget m) .machine) (runTally chip rom i ((runOf chip rom i budget m) .steps) m t)
+        ran : Inv ((runOf chip rom i budget m) .machine) (runTally chip rom i ((runOf chip rom i budget m) .count .steps) m t)
         ran = rw (completed, then (ending .count) (omega arith), whole-run) (ending .after)
 
     -- a run of no steps leaves the record
     no-steps : (m : Machine) → machineInRange chip m ≡ true → (b : Bool) → (inputInRange i && budgetInRange 0) ≡ b → (runOf chip rom i 0 m) .machine ≡ m
-    no-steps m r true e = ap (λ (x : Run). x .machine) (run-is 0 m r true e ∙ nothing-left chip rom i 0 m)
+    no-steps m r true e = ap (λ (x : Run). x .machine) (run-is 0 m r true e ∙ nothing-left chip rom i none m)
     no-steps m r false e = ap (λ (x : Run). x .machine) (run-is 0 m r false e)
 
   -- one call
@@ -195,9 +198,9 @@ module _ (chip : Chip) (rom sheet : List ℕ) (g : Cleared chip rom sheet) where
       record {
         allowed = refused-call (run form i budget) m h (ap (λ (r : Run). r .refusal) d);
         during = λ k some.
-            let none : k ≡ 0 = (let z : k ≤ 0 = subst (λ (r : Run). k ≤ r .steps) d some in omega arith) in
+            let none : k ≡ 0 = (let z : k ≤ 0 = subst (λ (r : Run). k ≤ r .count .steps) d some in omega arith) in
             moment _ _ (rw (none, no-steps i m (v .ranged) (inputInRange i && budgetInRange 0) refl) v);
-        after = subst (λ (r : Run). Inv (r .machine) (runTally chip rom i (r .steps) m t)) (sym d) v;
+        after = subst (λ (r : Run). Inv (r .machine) (runTally chip rom i (r .count .steps) m t)) (sym d) v;
       }
 
   called : (k : HostCall) (m : Machine) (t : Tally) → Inv m t → Called k m t

@@ -8,9 +8,12 @@ use native.Mathlib.Omega.{arith}
 use Rattle.memory.specs.Chip.{Chip}
 use Rattle.machine.specs.declared.Input.{Input}
 use Rattle.machine.specs.declared.Machine.{Machine}
-use Rattle.cpu.specs.Reply.{Reply, done, inStandby, refused, refusalOf, costOf, Step}
+use Rattle.cpu.specs.Cost.{costOf, nextCycles, plus, stepCost}
+use Rattle.cpu.specs.Reply.{Reply, done, inStandby, refused, refusalOf, Step}
 use Rattle.cpu.specs.Run.{Run, afterStep, ended, runFrom}
 use Rattle.cpu.specs.Step.{isStanding, stepOf}
+use Rattle.cpu.specs.declared.Count.{Count}
+use Rattle.cpu.proofs.Costs.{cost-below}
 use Rattle.clearance.specs.Calls.{Tally, stepTally}
 
 -- a run goes on after a completed step that does not leave the machine standing
@@ -19,24 +22,19 @@ goesOn done stands = not stands
 goesOn inStandby stands = false
 goesOn (refused n) stands = false
 
-turn : (r : Reply) (m : Machine) (steps : ℕ) (rest : Run) → afterStep steps m r rest ≡ cond (goesOn r (isStanding m)) rest (ended steps (refusalOf r) m)
-turn done m steps rest = either (isStanding m)
+turn : (r : Reply) (m : Machine) (count : Count) (rest : Run) → afterStep count m r rest ≡ cond (goesOn r (isStanding m)) rest (ended count (refusalOf r) m)
+turn done m count rest = either (isStanding m)
   where
-    either : (b : Bool) → cond b (ended steps 0 m) rest ≡ cond (not b) rest (ended steps 0 m)
+    either : (b : Bool) → cond b (ended count 0 m) rest ≡ cond (not b) rest (ended count 0 m)
     either true = refl
     either false = refl
-turn inStandby m steps rest = refl
-turn (refused n) m steps rest = refl
+turn inStandby m count rest = refl
+turn (refused n) m count rest = refl
 
-cost-of-going : (r : Reply) (stands : Bool) → goesOn r stands ≡ true → costOf r .steps ≡ 1
-cost-of-going done stands e = refl
-cost-of-going inStandby stands e = absurd (false≢true e)
-cost-of-going (refused n) stands e = absurd (false≢true e)
-
-pub cost-below : (r : Reply) → costOf r .steps ≤ 1
-cost-below done = omega arith
-cost-below inStandby = omega arith
-cost-below (refused n) = omega arith
+cost-of-going : (r : Reply) (stands : Bool) (cycles : ℕ) → goesOn r stands ≡ true → costOf cycles r ≡ costOf cycles done
+cost-of-going done stands cycles e = refl
+cost-of-going inStandby stands cycles e = absurd (false≢true e)
+cost-of-going (refused n) stands cycles e = absurd (false≢true e)
 
 module _ (chip : Chip) (rom : List ℕ) (i : Input) where
   abbrev S : Machine → Step
@@ -45,18 +43,22 @@ module _ (chip : Chip) (rom : List ℕ) (i : Input) where
   abbrev pub onFrom : Machine → Bool
   onFrom m = goesOn ((S m) .reply) (isStanding ((S m) .machine))
 
-  pub nothing-left : (n : ℕ) (m : Machine) → runFrom chip rom i 0 n m ≡ ended n 0 m
+  pub nothing-left : (c : Count) (m : Machine) → runFrom chip rom i 0 c m ≡ ended c 0 m
   unfolding runFrom
-  nothing-left n m = refl
+  nothing-left c m = refl
 
-  pub goes-on : (left n : ℕ) (m : Machine) → onFrom m ≡ true → runFrom chip rom i (suc left) n m ≡ runFrom chip rom i left (n + 1) ((S m) .machine)
-  unfolding runFrom
-  goes-on left n m e = turn ((S m) .reply) ((S m) .machine) _ _ ∙ rw (e, cost-of-going ((S m) .reply) _ e)
+  -- with a completed step more
+  abbrev pub more : Machine → Count → Count
+  more m c = plus c (costOf (nextCycles rom m) done)
 
-  pub stops : (left n : ℕ) (m : Machine) → onFrom m ≡ false
-      → runFrom chip rom i (suc left) n m ≡ ended (n + costOf ((S m) .reply) .steps) (refusalOf ((S m) .reply)) ((S m) .machine)
+  pub goes-on : (left : ℕ) (c : Count) (m : Machine) → onFrom m ≡ true → runFrom chip rom i (suc left) c m ≡ runFrom chip rom i left (more m c) ((S m) .machine)
   unfolding runFrom
-  stops left n m e = turn ((S m) .reply) ((S m) .machine) _ _ ∙ rw e
+  goes-on left c m e = turn ((S m) .reply) ((S m) .machine) _ _ ∙ rw (e, cost-of-going ((S m) .reply) _ (nextCycles rom m) e)
+
+  pub stops : (left : ℕ) (c : Count) (m : Machine) → onFrom m ≡ false
+      → runFrom chip rom i (suc left) c m ≡ ended (plus c (stepCost chip rom i m)) (refusalOf ((S m) .reply)) ((S m) .machine)
+  unfolding runFrom
+  stops left c m e = turn ((S m) .reply) ((S m) .machine) _ _ ∙ rw e
 
   -- the record and the tally after so many steps
   pub record Stage : Type 0 where
@@ -75,22 +77,22 @@ module _ (chip : Chip) (rom : List ℕ) (i : Input) where
   first-step (suc k) s = ap oneStep (first-step k s)
 
   -- a step counts for what it costs
-  pub spent : (s : Stage) (r : Reply) → (S (s .machine)) .reply ≡ r → (oneStep s) .tally ≡ (walk (costOf r .steps) s) .tally
-  spent s done e = refl
-  spent s inStandby e = rw e
-  spent s (refused n) e = rw e
+  pub spent : (s : Stage) (r : Reply) (cycles : ℕ) → (S (s .machine)) .reply ≡ r → (oneStep s) .tally ≡ (walk (costOf cycles r .steps) s) .tally
+  spent s done cycles e = refl
+  spent s inStandby cycles e = rw e
+  spent s (refused n) cycles e = rw e
 
   -- a run of no more steps than another completes is so many steps
-  pub reaches : (left k n : ℕ) (s : Stage) (b : Bool) → onFrom (s .machine) ≡ b → n + k ≤ (runFrom chip rom i left n (s .machine)) .steps
-      → (runFrom chip rom i k n (s .machine)) .machine ≡ (walk k s) .machine
-  reaches left zero n s b e h = ap (λ (r : Run). r .machine) (nothing-left n (s .machine))
-  reaches zero (suc j) n s b e h = let q = ap (λ (r : Run). r .steps) (nothing-left n (s .machine)) in absurd (omega arith)
-  reaches (suc l) (suc j) n s true e h =
-      let q = ap (λ (r : Run). r .steps) (goes-on l n (s .machine) e) in
-      ap (λ (r : Run). r .machine) (goes-on j n (s .machine) e)
-      ∙ reaches l j (n + 1) (oneStep s) (onFrom ((oneStep s) .machine)) refl (omega arith)
+  pub reaches : (left k : ℕ) (c : Count) (s : Stage) (b : Bool) → onFrom (s .machine) ≡ b → c .steps + k ≤ (runFrom chip rom i left c (s .machine)) .count .steps
+      → (runFrom chip rom i k c (s .machine)) .machine ≡ (walk k s) .machine
+  reaches left zero c s b e h = ap (λ (r : Run). r .machine) (nothing-left c (s .machine))
+  reaches zero (suc j) c s b e h = let q = ap (λ (r : Run). r .count .steps) (nothing-left c (s .machine)) in absurd (omega arith)
+  reaches (suc l) (suc j) c s true e h =
+      let q = ap (λ (r : Run). r .count .steps) (goes-on l c (s .machine) e) in
+      ap (λ (r : Run). r .machine) (goes-on j c (s .machine) e)
+      ∙ reaches l j (more (s .machine) c) (oneStep s) (onFrom ((oneStep s) .machine)) refl (omega arith)
       ∙ ap (λ (x : Stage). x .machine) (sym (first-step j s))
-  reaches (suc l) (suc j) n s false e h =
-      let q = ap (λ (r : Run). r .steps) (stops l n (s .machine) e) in
-      let none : j ≡ 0 = omega (arith, cost-below ((S (s .machine)) .reply)) in
-      ap (λ (r : Run). r .machine) (stops j n (s .machine) e) ∙ rw none
+  reaches (suc l) (suc j) c s false e h =
+      let q = ap (λ (r : Run). r .count .steps) (stops l c (s .machine) e) in
+      let none : j ≡ 0 = omega (arith, cost-below ((S (s .machine)) .reply) (nextCycles rom (s .machine))) in
+      ap (λ (r : Run). r .machine) (stops j c (s .machine) e) ∙ rw none

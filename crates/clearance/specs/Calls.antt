@@ -79,4 +79,4 @@ module _ (chip : Chip) (rom : List ℕ) where
   -- "Each completed step of a run counts, in a refused run too"
   abbrev pub tallyAfter : HostCall → Machine → Tally → Tally
   tallyAfter (step form i) m t = stepTally i m t
-  tallyAfter (run form i budget) m t = runTally i ((runOf chip rom i budget m) .steps) m t
+  tallyAfter (run form i budget) m t = runTally i ((runOf chip rom i budget m) .count .steps) m t

@@ -33,7 +33,7 @@ module _ (chip : Chip) (rom sheet : List ℕ) where
   -- run of so many steps leaves
   unfoldable pub Within : Input → ℕ → Machine → Tally → Type 0
   Within i budget m t =
-      (k : ℕ) → k ≤ (runOf chip rom i budget m) .steps → Moment ((runOf chip rom i k m) .machine) (runTally chip rom i k m t)
+      (k : ℕ) → k ≤ (runOf chip rom i budget m) .count .steps → Moment ((runOf chip rom i k m) .machine) (runTally chip rom i k m t)
 
   abbrev pub During : HostCall → Machine → Tally → Type 0
   During (step form i) m t = Unit

@@ -3,6 +3,7 @@ pub mod RangeParts
 pub mod Levels
 pub mod Ranged
 pub mod ArFits
+pub mod Costs
 pub mod Turns
 pub mod Loop
 pub mod Settled

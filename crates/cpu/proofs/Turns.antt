@@ -1,19 +1,23 @@
 -- One turn of a run.
 -- Assumes nothing.
 use mathlib.Core.Path.{_≡_, _∙_, ap, refl, sym}
-use mathlib.Core.Bool.{true, false, and-false}
+use mathlib.Core.Bool.{Bool, true, false, and-false}
 use mathlib.Core.List.{List}
 use Prim.Native.Nat.{ℕ, suc, _+_, _-_, _<_, _≤_}
-use native.Mathlib.Nat.{add-zero}
 use native.Mathlib.Omega.{arith}
 use borrow.Author.Tests.{le-leb, lt-leb}
+use lib.Dec.{lit≤}
+use Rattle.laws.proofs.Booleans.{either}
 use Rattle.memory.specs.Chip.{Chip}
-use Rattle.cpu.specs.Reply.{Reply, done, inStandby, refused, costOf, refusalOf, Step, completedStep, refusedStep}
+use Rattle.cpu.specs.Reply.{Reply, done, inStandby, refused, refusalOf, Step, completedStep, refusedStep}
 use Rattle.machine.specs.Ranges.{machineInRange, inputInRange, romInRange, allInRange, budgetInRange}
-use Rattle.cpu.specs.Run.{Run, runFrom, runOf, afterStep, ended}
+use Rattle.cpu.specs.Run.{Run, runFrom, runOf, stepRun, afterStep, ended}
 use Rattle.cpu.specs.Step.{isStanding, stepOf, advanceOf}
+use Rattle.cpu.specs.Cost.{none, plus, costOf, nextCycles, stepCost}
+use Rattle.cpu.specs.declared.Count.{Count}
 use Rattle.machine.specs.declared.Input.{Input}
 use Rattle.machine.specs.declared.Machine.{Machine}
+use Rattle.cpu.proofs.Costs.{plus-none, none-plus}
 
 module _ (chip : Chip) (rom : List ℕ) (input : Input) where
   pub all-of : (m : Machine) → machineInRange chip m ≡ true → inputInRange input ≡ true → romInRange chip rom ≡ true
@@ -30,63 +34,87 @@ module _ (chip : Chip) (rom : List ℕ) (input : Input) where
   step-refused m e = rw e
 
   -- a turn on a machine in range, by the step that it takes
-  turn : (left steps : ℕ) (m : Machine) (s : Step) → s ≡ stepOf chip rom input m
-      → runFrom chip rom input (suc left) steps m
-      ≡ afterStep (steps + costOf (s .reply) .steps) (s .machine) (s .reply) (runFrom chip rom input left (steps + costOf (s .reply) .steps) (s .machine))
+  turn : (left : ℕ) (count : Count) (m : Machine) (s : Step) → s ≡ stepOf chip rom input m
+      → runFrom chip rom input (suc left) count m
+      ≡ afterStep (plus count (costOf (nextCycles rom m) (s .reply))) (s .machine) (s .reply) (runFrom chip rom input left (plus count (costOf (nextCycles rom m) (s .reply))) (s .machine))
   unfolding runFrom
-  turn left steps m s e =
+  turn left count m s e =
       ap (λ (x : Step).
-      afterStep (steps + costOf (x .reply) .steps) (x .machine) (x .reply) (runFrom chip rom input left (steps + costOf (x .reply) .steps) (x .machine)))
+      afterStep (plus count (costOf (nextCycles rom m) (x .reply))) (x .machine) (x .reply) (runFrom chip rom input left (plus count (costOf (nextCycles rom m) (x .reply))) (x .machine)))
       (sym e)
 
-  module _ (budget steps : ℕ) (more : steps < budget) (m : Machine) (fine : allInRange chip rom m input ≡ true) where
+  module _ (budget : ℕ) (count : Count) (more : count .steps < budget) (m : Machine) (fine : allInRange chip rom m input ≡ true) where
     abbrev here : Run
-    here = runFrom chip rom input (budget - steps) steps m
+    here = runFrom chip rom input (budget - count .steps) count m
+
+    -- with one step more, where it is completed
+    abbrev counted : Count
+    counted = plus count (costOf (nextCycles rom m) done)
 
     taken : (s : Step) → s ≡ advanceOf chip rom input m
-        → here ≡ afterStep (steps + costOf (s .reply) .steps) (s .machine) (s .reply) (runFrom chip rom input (budget - (steps + 1)) (steps + costOf (s .reply) .steps) (s .machine))
+        → here ≡ afterStep (plus count (costOf (nextCycles rom m) (s .reply))) (s .machine) (s .reply) (runFrom chip rom input (budget - (count .steps + 1)) (plus count (costOf (nextCycles rom m) (s .reply))) (s .machine))
     taken s e =
-        let l : suc (budget - (steps + 1)) ≡ budget - steps = omega arith in
-        rw (← l) (turn (budget - (steps + 1)) steps m s (e ∙ sym (step-advances m fine)))
+        let l : suc (budget - (count .steps + 1)) ≡ budget - count .steps = omega arith in
+        rw (← l) (turn (budget - (count .steps + 1)) count m s (e ∙ sym (step-advances m fine)))
 
     -- a completed step, and the run goes on
     pub goes-on : (after : Machine) → completedStep after ≡ advanceOf chip rom input m → isStanding after ≡ false
-        → here ≡ runFrom chip rom input (budget - (steps + 1)) (steps + 1) after
+        → here ≡ runFrom chip rom input (budget - counted .steps) counted after
     goes-on after e b = taken (completedStep after) e ∙ rw b
 
     -- a completed step that leaves the machine standing
     pub stands : (after : Machine) → completedStep after ≡ advanceOf chip rom input m → isStanding after ≡ true
-        → here ≡ ended (steps + 1) 0 after
+        → here ≡ ended counted 0 after
     stands after e b = taken (completedStep after) e ∙ rw b
 
     not-completed : (r : Reply) (after : Machine) (rest : Run) → (r ≡ done → ⊥)
-        → afterStep (steps + costOf r .steps) after r rest ≡ ended steps (refusalOf r) after
+        → afterStep (plus count (costOf (nextCycles rom m) r)) after r rest ≡ ended count (refusalOf r) after
     not-completed done after rest n = absurd (n refl)
-    not-completed inStandby after rest n = ap (λ (k : ℕ). ended k 0 after) (add-zero steps)
-    not-completed (refused k) after rest n = ap (λ (j : ℕ). ended j k after) (add-zero steps)
+    not-completed inStandby after rest n = ap (λ (k : Count). ended k 0 after) (plus-none count)
+    not-completed (refused k) after rest n = ap (λ (j : Count). ended j k after) (plus-none count)
 
     -- a step that is not completed
     pub breaks-off : (r : Reply) (after : Machine) → record { reply = r; machine = after } ≡ advanceOf chip rom input m → (r ≡ done → ⊥)
-        → here ≡ ended steps (refusalOf r) after
+        → here ≡ ended count (refusalOf r) after
     breaks-off r after e n = taken (record { reply = r; machine = after }) e ∙ not-completed r after _ n
 
   -- the budget is used up
-  pub used-up : (budget steps : ℕ) (m : Machine) → budget ≤ steps → runFrom chip rom input (budget - steps) steps m ≡ ended steps 0 m
+  pub used-up : (budget : ℕ) (count : Count) (m : Machine) → budget ≤ count .steps → runFrom chip rom input (budget - count .steps) count m ≡ ended count 0 m
   unfolding runFrom
-  used-up budget steps m h =
-      let e : budget - steps ≡ 0 = omega arith in
+  used-up budget count m h =
+      let e : budget - count .steps ≡ 0 = omega arith in
       rw e
 
   -- how a run begins
   pub begins : (budget : ℕ) (m : Machine) → budget ≤ 65535 → allInRange chip rom m input ≡ true
-      → runFrom chip rom input budget 0 m ≡ runOf chip rom input budget m
+      → runFrom chip rom input budget none m ≡ runOf chip rom input budget m
   unfolding runOf budgetInRange
   begins budget m h r = rw (r, le-leb budget 65535 h)
 
-  pub budget-refused : (budget : ℕ) (m : Machine) → 65535 < budget → ended 0 1 m ≡ runOf chip rom input budget m
+  pub budget-refused : (budget : ℕ) (m : Machine) → 65535 < budget → ended none 1 m ≡ runOf chip rom input budget m
   unfolding runOf budgetInRange
   budget-refused budget m h = rw (lt-leb budget 65535 h, and-false _)
 
-  pub range-refused : (budget : ℕ) (m : Machine) → allInRange chip rom m input ≡ false → ended 0 1 m ≡ runOf chip rom input budget m
+  pub range-refused : (budget : ℕ) (m : Machine) → allInRange chip rom m input ≡ false → ended none 1 m ≡ runOf chip rom input budget m
   unfolding runOf
   range-refused budget m r = rw r
+
+  -- a run of one step that has been taken
+  one : (count : Count) (m : Machine) (r : Reply) → afterStep count m r (ended count 0 m) ≡ ended count (refusalOf r) m
+  one count m done = either (λ (x : Run). x ≡ ended count 0 m) (isStanding m) (ended count 0 m) (ended count 0 m) refl refl
+  one count m inStandby = refl
+  one count m (refused n) = refl
+
+  -- a run of 1 is a step, with what it counts for
+  single-from : (m : Machine) → runFrom chip rom input 1 none m ≡ stepRun chip rom input m
+  unfolding runFrom
+  single-from m =
+      let s = stepOf chip rom input m in
+      one (plus none (stepCost chip rom input m)) (s .machine) (s .reply) ∙ ap (λ (k : Count). ended k (refusalOf (s .reply)) (s .machine)) (none-plus (stepCost chip rom input m))
+
+  single-by : (m : Machine) (b : Bool) → allInRange chip rom m input ≡ b → runOf chip rom input 1 m ≡ stepRun chip rom input m
+  single-by m true e = sym (begins 1 m (lit≤ tt) e) ∙ single-from m
+  single-by m false e = sym (range-refused 1 m e) ∙ ap (λ (s : Step). ended (costOf (nextCycles rom m) (s .reply)) (refusalOf (s .reply)) (s .machine)) (step-refused m e)
+
+  pub single : (m : Machine) → runOf chip rom input 1 m ≡ stepRun chip rom input m
+  single m = single-by m (allInRange chip rom m input) refl

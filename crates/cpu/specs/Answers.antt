@@ -38,4 +38,4 @@ endOf end.Completed = 0
 endOf (end.Refused r) = numberOf r
 
 abbrev pub runOfRan : Ran → Run
-runOfRan r = record { steps = r .steps; refusal = endOf (r .end); machine = r .machine }
+runOfRan r = record { count = r .count; refusal = endOf (r .end); machine = r .machine }

@@ -1,6 +1,7 @@
 pub mod Reply
 pub mod Execute
 pub mod Step
+pub mod Cost
 pub mod Run
 pub mod Answers
 pub mod Joined

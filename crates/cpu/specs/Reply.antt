@@ -28,14 +28,3 @@ abbrev pub refusalOf : Reply → ℕ
 refusalOf done = 0
 refusalOf inStandby = 0
 refusalOf (refused n) = n
-
--- what a step counts for
-pub record Cost : Type 0 where
-  pub steps : ℕ
-  pub cycles : ℕ
-
--- "Each completed step counts one cycle"; one that answers "standing", or is refused, is not completed
-abbrev pub costOf : Reply → Cost
-costOf done = record { steps = 1; cycles = 1 }
-costOf inStandby = record { steps = 0; cycles = 0 }
-costOf (refused n) = record { steps = 0; cycles = 0 }

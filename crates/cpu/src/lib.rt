@@ -33,18 +33,25 @@ impl Answer {
     }
 }
 
+// Steps completed, and the instruction cycles that they took.
+#[repr(C)]
+pub struct Count {
+    pub steps: u32,
+    pub cycles: u32,
+}
+
 // What steps up to a refusal, standby or the budget leave beside the cells; how many of them were completed; and the last one's
 // answer.
 pub struct Reached {
     pub control: Control,
-    pub steps: u32,
+    pub count: Count,
     pub answer: Answer,
 }
 
-// The machine after a step, the steps that it counts for, and its answer.
+// The machine after a step, what the step counts for, and its answer.
 pub struct Stepped {
     pub machine: Machine,
-    pub steps: u32,
+    pub count: Count,
     pub answer: Answer,
 }
 
@@ -70,7 +77,7 @@ impl End {
 // The machine after a run, the steps that it completed, and how it ended.
 pub struct Ran {
     pub machine: Machine,
-    pub steps: u32,
+    pub count: Count,
     pub end: End,
 }
 

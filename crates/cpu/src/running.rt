@@ -3,16 +3,19 @@ ghost use mathlib.Core.Path.{_≡_};
 ghost use Rattle.memory.specs.Chip.{upd17132};
 ghost use Rattle.machine.specs.Parts.{machineOf};
 ghost use Rattle.cpu.specs.Answers.{endOf, reachedStep, replyOf, runOfRan, stepOfStepped};
-ghost use Rattle.cpu.specs.Reply.{costOf, refusalOf};
+ghost use Rattle.cpu.specs.Cost.{stepCost};
+ghost use Rattle.cpu.specs.Reply.{refusalOf};
 ghost use Rattle.cpu.specs.Run.{runOf, ended};
 ghost use Rattle.cpu.specs.Step.{stepOf};
 use crate::Answer;
+use crate::Count;
 use crate::End;
 use crate::Ran;
 use crate::Reached;
 use crate::Stepped;
 use crate::stepping::advance;
 use crate::stepping::control_of;
+use crate::stepping::cycles_at;
 use crate::stepping::join;
 use crate::stepping::regs_of;
 use crate::stepping::stays_standing;
@@ -34,12 +37,15 @@ fn end_of(answer: Answer) -> End
     }
 }
 
-fn so_far(control: Control, steps: u32, answer: Answer) -> Reached
-    ensures { λ r. ⌜ r ≡ record { control = control; steps = steps; answer = answer } ⌝ }
+fn so_far(control: Control, steps: u32, cycles: u32, answer: Answer) -> Reached
+    ensures { λ r. ⌜ r ≡ record { control = control; count = record { steps = steps; cycles = cycles }; answer = answer } ⌝ }
 {
     Reached {
         control: control,
-        steps: steps,
+        count: Count {
+            steps: steps,
+            cycles: cycles,
+        },
         answer: answer,
     }
 }
@@ -47,39 +53,46 @@ fn so_far(control: Control, steps: u32, answer: Answer) -> Reached
 // Steps up to a refusal, standby or the budget, on the cells where they stand. The range is tested once; each step keeps it. It
 // serves the run and the step, so that `advance` has one caller and is inlined there.
 fn go(rom: &[u16], cells: &mut [u8; 128], control: Control, input: Input, budget: u32) -> Reached
-    ensures { λ r. ⌜ ended (r .steps) (refusalOf (replyOf (r .answer))) (machineOf (now (cells .exit)) (r .control)) ≡ runOf upd17132 (now (rom .entry)) input budget (machineOf (now (cells .entry)) control) ⌝ }
+    ensures { λ r. ⌜ ended (r .count) (refusalOf (replyOf (r .answer))) (machineOf (now (cells .exit)) (r .control)) ≡ runOf upd17132 (now (rom .entry)) input budget (machineOf (now (cells .entry)) control) ⌝ }
     ensures { λ r. ⌜ (budget ≡ 1 → reachedStep (now (cells .exit)) r ≡ stepOf upd17132 (now (rom .entry)) input (machineOf (now (cells .entry)) control)) ⌝ }
-    ensures { λ r. ⌜ (budget ≡ 1 → r .steps ≡ costOf (replyOf (r .answer)) .steps) ⌝ }
 {
     if 65535 < budget {
-        return so_far(control, 0, Answer::Refused(Refusal::OutOfRange));
+        return so_far(control, 0, 0, Answer::Refused(Refusal::OutOfRange));
     }
     if !ranges::all(rom, join(*cells, control), input) {
-        return so_far(control, 0, Answer::Refused(Refusal::OutOfRange));
+        return so_far(control, 0, 0, Answer::Refused(Refusal::OutOfRange));
     }
     let mut stack = control.stack;
     let mut regs = regs_of(control);
     if stays_standing(regs, input.release) {
-        return so_far(control, 0, Answer::Standby);
+        return so_far(control, 0, 0, Answer::Standby);
     }
     let pins = input.pins;
     let directions = input.directions;
     let mut steps: u32 = 0;
+    let mut cycles: u32 = 0;
     while steps < budget {
+        let cost = cycles_at(rom, regs);
         match advance(rom, cells, &mut stack, regs, &pins, &directions) {
             Transfer::To(next) => {
                 steps += 1;
+                cycles += cost;
                 regs = next;
                 if next.standby != 0 {
-                    return so_far(control_of(stack, next), steps, Answer::Done);
+                    return so_far(control_of(stack, next), steps, cycles, Answer::Done);
                 }
             }
             Transfer::Refused(refusal) => {
-                return so_far(control_of(stack, regs), steps, Answer::Refused(refusal));
+                return so_far(
+                    control_of(stack, regs),
+                    steps,
+                    cycles,
+                    Answer::Refused(refusal),
+                );
             }
         }
     }
-    so_far(control_of(stack, regs), steps, Answer::Done)
+    so_far(control_of(stack, regs), steps, cycles, Answer::Done)
 }
 
 // The counted run.
@@ -90,9 +103,10 @@ pub fn run(rom: &[u16], machine: Machine, input: Input, budget: u32) -> Ran
     let mut cells = memory.cells;
     let last = go(rom, &mut cells, machine.control, input, budget);
     let answer = last.answer;
+    let count = last.count;
     Ran {
         machine: join(cells, last.control),
-        steps: last.steps,
+        count: count,
         end: end_of(answer),
     }
 }
@@ -100,15 +114,16 @@ pub fn run(rom: &[u16], machine: Machine, input: Input, budget: u32) -> Ran
 // One step: the run of one, with its answer.
 pub fn step(rom: &[u16], machine: Machine, input: Input) -> Stepped
     ensures { λ r. ⌜ stepOfStepped r ≡ stepOf upd17132 (now (rom .entry)) input machine ⌝ }
-    ensures { λ r. ⌜ r .steps ≡ costOf (stepOf upd17132 (now (rom .entry)) input machine .reply) .steps ⌝ }
+    ensures { λ r. ⌜ r .count ≡ stepCost upd17132 (now (rom .entry)) input machine ⌝ }
 {
     let memory = machine.memory;
     let mut cells = memory.cells;
     let one = go(rom, &mut cells, machine.control, input, 1);
     let answer = one.answer;
+    let cost = one.count;
     Stepped {
         machine: join(cells, one.control),
-        steps: one.steps,
+        count: cost,
         answer: answer,
     }
 }

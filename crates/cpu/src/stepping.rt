@@ -1,17 +1,21 @@
 // A step of a machine in range, from refusal 2 on; refusal 1 and staying in standby are told in running.rt.
 ghost use mathlib.Core.Path.{_≡_};
 ghost use mathlib.Core.List.{List};
-ghost use mathlib.Core.Bool.{false, _&&_};
+ghost use mathlib.Core.Bool.{cond, false, _&&_};
 ghost use Prim.Native.Nat.{ℕ};
 ghost use lib.Dec.{eqb};
+ghost use lib.ListN.{getD};
 ghost use Rattle.memory.specs.Chip.{upd17132};
 ghost use Rattle.machine.specs.Parts.{isMarked, machineOf};
 ghost use Rattle.control.specs.Control.{withStandby};
+ghost use Rattle.control.specs.Flow.{readsTable};
+ghost use Rattle.cpu.specs.Cost.{cyclesOf};
 ghost use Rattle.cpu.specs.Joined.{executedOf, fetchedOf, inputAt, wholeOf};
 ghost use Rattle.control.specs.Transfers.{withStack};
 ghost use Rattle.cpu.specs.Step.{advanceOf};
 use crate::Fetched;
 use crate::execution::execute;
+use control::Flow;
 use control::Regs;
 use control::Transfer;
 use isa::Decoded;
@@ -29,6 +33,36 @@ fn fetch(rom: &[u16], pc: u16) -> Fetched
         return Fetched::Past;
     }
     Fetched::Word(rom[at])
+}
+
+// MOVT takes two cycles, every other instruction one.
+fn flow_cycles(flow: Flow) -> u32
+    ensures { λ r. ⌜ r ≡ cond (readsTable flow) 2 1 ⌝ }
+{
+    match flow {
+        Flow::Onward => 1,
+        Flow::Skips => 1,
+        Flow::Branches(_) => 1,
+        Flow::Calls(_) => 1,
+        Flow::Returns(_) => 1,
+        Flow::ReadsTable => 2,
+        Flow::StandsBy => 1,
+        Flow::ByAr(_) => 1,
+        Flow::Refused(_) => 1,
+    }
+}
+
+// The cycles of the step at PC, where it is completed.
+pub fn cycles_at(rom: &[u16], regs: Regs) -> u32
+    ensures { λ r. ⌜ r ≡ cyclesOf (getD (now (rom .entry)) (regs .pc) 0) (regs .skip) ⌝ }
+{
+    let Fetched::Word(word) = fetch(rom, regs.pc) else {
+        return 1;
+    };
+    if regs.skip != 0 {
+        return 1;
+    }
+    flow_cycles(control::of_word(word))
 }
 
 // Whether the machine stays in standby.

@@ -3,16 +3,18 @@
 use mathlib.Core.Path.{_≡_}
 use mathlib.Core.Bool.{true, _&&_}
 use mathlib.Core.List.{List}
-use Prim.Native.Nat.{ℕ, zero, suc, _+_}
+use Prim.Native.Nat.{ℕ, zero, suc}
 use lib.Dec.{lit≤}
 use Rattle.laws.proofs.Booleans.{either}
 use Rattle.memory.specs.Chip.{Chip, upd17132}
 use Rattle.machine.specs.Ranges.{machineInRange, allInRange, budgetInRange}
 use Rattle.machine.specs.declared.Input.{Input}
 use Rattle.machine.specs.declared.Machine.{Machine}
-use Rattle.cpu.specs.Reply.{Reply, done, inStandby, refused, costOf}
+use Rattle.cpu.specs.Cost.{none, plus, stepCost}
+use Rattle.cpu.specs.Reply.{Reply, done, inStandby, refused}
 use Rattle.cpu.specs.Run.{Run, afterStep, ended, runFrom, runOf}
 use Rattle.cpu.specs.Step.{isStanding, stepOf}
+use Rattle.cpu.specs.declared.Count.{Count}
 use Rattle.cpu.proofs.ArFits.{ar-fits}
 use Rattle.cpu.proofs.Ranged.{steps}
 use Rattle.step_laws.specs.RangeLaws.{RangeLaws}
@@ -23,23 +25,23 @@ module _ (chip : Chip) (rom : List ℕ) (input : Input) (P : Machine → Type 0)
   abbrev Q : Run → Type 0
   Q r = P (r .machine)
 
-  turned : (n : ℕ) (m : Machine) (r : Reply) (rest : Run) → P m → Q rest → Q (afterStep n m r rest)
+  turned : (n : Count) (m : Machine) (r : Reply) (rest : Run) → P m → Q rest → Q (afterStep n m r rest)
   turned n m done rest p q = either Q (isStanding m) (ended n 0 m) rest p q
   turned n m inStandby rest p q = p
   turned n m (refused k) rest p q = p
 
-  from : (left n : ℕ) (m : Machine) → P m → Q (runFrom chip rom input left n m)
+  from : (left : ℕ) (n : Count) (m : Machine) → P m → Q (runFrom chip rom input left n m)
   unfolding runFrom
   from zero n m p = p
   from (suc left) n m p =
       let s = stepOf chip rom input m in
-      let count = n + costOf (s .reply) .steps in
+      let count = plus n (stepCost chip rom input m) in
       turned count (s .machine) (s .reply) (runFrom chip rom input left count (s .machine)) (each m p) (from left count (s .machine) (each m p))
 
   pub runs : (budget : ℕ) (m : Machine) → P m → Q (runOf chip rom input budget m)
   unfolding runOf
   runs budget m p =
-      either Q (allInRange chip rom m input && budgetInRange budget) (runFrom chip rom input budget 0 m) (ended 0 1 m) (from budget 0 m p) p
+      either Q (allInRange chip rom m input && budgetInRange budget) (runFrom chip rom input budget none m) (ended none 1 m) (from budget none m p) p
 
 pub range-laws : RangeLaws upd17132
 range-laws =

@@ -8,32 +8,28 @@ use Prim.Native.Nat.{ℕ, _+_, _-_, _≤_, _<_}
 use native.Mathlib.Nat.{zero-add}
 use native.Mathlib.Omega.{arith}
 use borrow.Author.Tests.{ltb-true, ltb-false}
-use lib.Dec.{lit≤, ltb}
+use lib.Dec.{ltb}
 use Rattle.laws.proofs.Booleans.{either}
 use Rattle.memory.specs.Chip.{Chip, upd17132}
 use Rattle.machine.specs.Ranges.{allInRange, budgetInRange}
 use Rattle.machine.specs.declared.Input.{Input}
 use Rattle.machine.specs.declared.Machine.{Machine}
-use Rattle.cpu.specs.Reply.{Reply, done, inStandby, refused, costOf, refusedStep}
-use Rattle.cpu.specs.Run.{Run, afterStep, ended, runFrom, runOf}
+use Rattle.cpu.specs.Cost.{none}
+use Rattle.cpu.specs.Reply.{refusedStep}
+use Rattle.cpu.specs.Run.{Run, ended, runFrom, runOf}
 use Rattle.cpu.specs.Step.{isStanding, stepOf}
+use Rattle.cpu.specs.declared.Count.{Count}
+use Rattle.cpu.proofs.Costs.{none-plus}
 use Rattle.cpu.proofs.RangeParts.{all-parts}
-use Rattle.cpu.proofs.Turns.{all-of, begins, budget-refused, range-refused, step-refused}
+use Rattle.cpu.proofs.Turns.{all-of, begins, budget-refused, range-refused, single}
 use Rattle.step_laws.specs.RangeLaws.{RangeLaws}
-use Rattle.step_laws.specs.RunLaws.{asRun, after, RunLaws}
+use Rattle.step_laws.specs.RunLaws.{after, RunLaws}
 use Rattle.step_laws.proofs.Ranges.{range-laws}
-use Rattle.step_laws.proofs.Splits.{counts, Split, Idle, split, begun-at, bounded, reached, passed, awake, ends}
+use Rattle.step_laws.proofs.Splits.{counts, Split, Idle, Fair, fair, split, begun-at, bounded, reached, passed, awake, ends}
 
--- a run of one step that has been taken
-one : (m : Machine) (r : Reply) → afterStep (0 + costOf r .steps) m r (ended (0 + costOf r .steps) 0 m) ≡ asRun (record { reply = r; machine = m })
-one m done = either (λ (r : Run). r ≡ ended 1 0 m) (isStanding m) (ended 1 0 m) (ended 1 0 m) refl refl
-one m inStandby = refl
-one m (refused n) = refl
-
-cycles : (r : Reply) → costOf r .cycles ≡ costOf r .steps
-cycles done = refl
-cycles inStandby = refl
-cycles (refused n) = refl
+-- a run that was not refused, by its parts
+told : (r : Run) (c : Count) (m : Machine) → c ≡ r .count → r .refusal ≡ 0 → m ≡ r .machine → r ≡ ended c 0 m
+told r c m e z f = rw (e, f) (ap (λ (n : ℕ). ended (r .count) n (r .machine)) z)
 
 module _ (chip : Chip) (laws : RangeLaws chip) (rom : List ℕ) (input : Input) (m : Machine) where
   abbrev ran : ℕ → Run
@@ -42,17 +38,9 @@ module _ (chip : Chip) (laws : RangeLaws chip) (rom : List ℕ) (input : Input) 
   abbrev fine : Machine → Type 0
   fine x = allInRange chip rom x input ≡ true
 
-  single-from : runFrom chip rom input 1 0 m ≡ asRun (stepOf chip rom input m)
-  unfolding runFrom
-  single-from = one (stepOf chip rom input m .machine) (stepOf chip rom input m .reply)
-
-  single : (b : Bool) → allInRange chip rom m input ≡ b → ran 1 ≡ asRun (stepOf chip rom input m)
-  single true e = sym (begins chip rom input 1 m (lit≤ tt) e) ∙ single-from
-  single false e = sym (range-refused chip rom input 1 m e) ∙ ap asRun (step-refused chip rom input m e)
-
   -- a run is refused with 1, or begins
   abbrev Start : ℕ → Type 0
-  Start n = (ran n ≡ ended 0 1 m) ⊎ (fine m × (n ≤ 65535))
+  Start n = (ran n ≡ ended none 1 m) ⊎ (fine m × (n ≤ 65535))
 
   start-by : (n : ℕ) (a b : Bool) → allInRange chip rom m input ≡ a → ltb 65535 n ≡ b → Start n
   start-by n false b e h = inl (sym (range-refused chip rom input n m e))
@@ -67,55 +55,65 @@ module _ (chip : Chip) (laws : RangeLaws chip) (rom : List ℕ) (input : Input) 
     split-at n k b h =
         let s : k + (n - k) ≡ n = omega arith in
         rw (← begins chip rom input k m (omega arith) e, ← begins chip rom input n m b e)
-        (rw (zero-add k, s) at (split chip rom input k (n - k) 0 m))
+        (rw (zero-add k, s) at (split chip rom input k (n - k) none m))
 
     -- what follows the first k steps is a run
-    followed : (k j : ℕ) → j ≤ 65535 → runFrom chip rom input j k (ran k .machine) ≡ after k (runOf chip rom input j (ran k .machine))
+    followed : (k j : ℕ) → j ≤ 65535 → runFrom chip rom input j (ran k .count) (ran k .machine) ≡ after (ran k .count) (runOf chip rom input j (ran k .machine))
     followed k j b =
         let p = all-parts chip rom m input e in
         let next = ran k .machine in
-        begun-at chip rom input j k next
-        ∙ ap (after k) (begins chip rom input j next b (all-of chip rom input next (laws .run rom input k m (p .0)) (p .1 .0) (p .1 .1)))
+        begun-at chip rom input j (ran k .count) next
+        ∙ ap (after (ran k .count)) (begins chip rom input j next b (all-of chip rom input next (laws .run rom input k m (p .0)) (p .1 .0) (p .1 .1)))
 
-  at-most : (n : ℕ) → Start n → ran n .steps ≤ n
+    fair-run : (n : ℕ) → n ≤ 65535 → Fair chip rom input (ran n .count)
+    fair-run n b = rw (← begins chip rom input n m b e) (fair chip rom input n none m (omega arith, omega arith))
+
+  cycles : (n : ℕ) → Start n → Fair chip rom input (ran n .count)
+  cycles n (inl e) = rw e (omega arith, omega arith)
+  cycles n (inr p) = fair-run (p .0) n (p .1)
+
+  at-most : (n : ℕ) → Start n → ran n .count .steps ≤ n
   at-most n (inl e) = omega (arith, counts e)
   at-most n (inr p) = bounded chip rom input (split-at (p .0) n n (p .1) (omega arith))
 
   -- a run that begins, split within its count
-  split-in : (n k : ℕ) → Start n → (ran n .refusal ≡ 1 → ⊥) → k ≤ ran n .steps → Split chip rom input (n - k) k (ran k) (ran n)
+  split-in : (n k : ℕ) → Start n → (ran n .refusal ≡ 1 → ⊥) → k ≤ ran n .count .steps → Split chip rom input (n - k) k (ran k) (ran n)
   split-in n k (inl e) f h = absurd (f (ap (λ (r : Run). r .refusal) e))
   split-in n k (inr p) f h = split-at (p .0) n k (p .1) (omega (arith, at-most n (inr p)))
 
-  prefix : (n k : ℕ) → (ran n .refusal ≡ 1 → ⊥) → k ≤ ran n .steps → ran k ≡ ended k 0 (ran k .machine)
+  prefix : (n k : ℕ) → (ran n .refusal ≡ 1 → ⊥) → k ≤ ran n .count .steps → (ran k .count .steps ≡ k) × (ran k .refusal ≡ 0)
   prefix n k f h = reached chip rom input (split-in n k (start n) f h) h
 
   -- the end of a run, seen from the run of its count
-  end-of : (n : ℕ) → (ran n .refusal ≡ 1 → ⊥) → Idle chip rom input (ran (ran n .steps) .machine) (ran n)
-  end-of n f = ends chip rom input (split-in n (ran n .steps) (start n) f (omega arith)) refl
+  end-of : (n : ℕ) → (ran n .refusal ≡ 1 → ⊥) → Idle chip rom input (ran (ran n .count .steps) .machine) (ran (ran n .count .steps) .count) (ran n)
+  end-of n f = ends chip rom input (split-in n (ran n .count .steps) (start n) f (omega arith)) refl
 
-  whole : (n : ℕ) → (ran n .refusal ≡ 1 → ⊥) → ran (ran n .steps) ≡ ended (ran n .steps) 0 (ran n .machine)
-  whole n f = prefix n (ran n .steps) f (omega arith) ∙ ap (ended (ran n .steps) 0) (sym (end-of n f .same))
+  whole : (n : ℕ) → (ran n .refusal ≡ 1 → ⊥) → ran (ran n .count .steps) ≡ ended (ran n .count) 0 (ran n .machine)
+  whole n f =
+      let i = end-of n f in
+      let z = prefix n (ran n .count .steps) f (omega arith) .1 in
+      told (ran (ran n .count .steps)) (ran n .count) (ran n .machine) (i .uncounted) z (i .same)
 
   next : (n : ℕ) → (ran n .refusal ≡ 1 → ⊥) → (ran n .refusal ≡ 0 → ⊥)
       → stepOf chip rom input (ran n .machine) ≡ refusedStep (ran n .refusal) (ran n .machine)
   next n f g = rw (end-of n f .same) (end-of n f .meets g)
 
-  rest : (n k : ℕ) → Start n → k < ran n .steps → ran n ≡ after k (runOf chip rom input (n - k) (ran k .machine))
+  rest : (n k : ℕ) → Start n → k < ran n .count .steps → ran n ≡ after (ran k .count) (runOf chip rom input (n - k) (ran k .machine))
   rest n k (inl e) h = absurd (omega (arith, counts e))
   rest n k (inr p) h =
       passed chip rom input (split-at (p .0) n k (p .1) (omega (arith, at-most n (inr p)))) h
       ∙ followed (p .0) k (n - k) (omega arith)
 
   -- nothing first
-  untaken : ran 0 .machine ≡ m
+  untaken : (ran 0 .machine ≡ m) × (ran 0 .count ≡ none)
   unfolding runOf runFrom
-  untaken = either (λ (r : Run). r .machine ≡ m) (allInRange chip rom m input && budgetInRange 0) (ended 0 0 m) (ended 0 1 m) refl refl
+  untaken = either (λ (r : Run). (r .machine ≡ m) × (r .count ≡ none)) (allInRange chip rom m input && budgetInRange 0) (ended none 0 m) (ended none 1 m) (refl, refl) (refl, refl)
 
-  joined-none : (n k : ℕ) → n ≡ 0 → ran (n + k) ≡ after n (runOf chip rom input k (ran n .machine))
-  joined-none n k z = rw (z, untaken, zero-add k, zero-add (ran k .steps))
+  joined-none : (n k : ℕ) → n ≡ 0 → ran (n + k) ≡ after (ran n .count) (runOf chip rom input k (ran n .machine))
+  joined-none n k z = rw (z, untaken .0, untaken .1, zero-add k, none-plus (ran k .count))
 
-  joined-on : (n k : ℕ) → Start n → n + k ≤ 65535 → ran n .steps ≡ n → isStanding (ran n .machine) ≡ false
-      → ran (n + k) ≡ after n (runOf chip rom input k (ran n .machine))
+  joined-on : (n k : ℕ) → Start n → n + k ≤ 65535 → ran n .count .steps ≡ n → isStanding (ran n .machine) ≡ false
+      → ran (n + k) ≡ after (ran n .count) (runOf chip rom input k (ran n .machine))
   joined-on n k (inl e) b c w = joined-none n k (sym c ∙ counts e)
   joined-on n k (inr p) b c w =
       let l : n + k - n ≡ k = omega arith in
@@ -124,8 +122,8 @@ module _ (chip : Chip) (laws : RangeLaws chip) (rom : List ℕ) (input : Input) 
 
   pub run-laws : RunLaws chip rom input m
   run-laws = record {
-    cycles = cycles;
-    single = single (allInRange chip rom m input) refl;
+    cycles = λ n. cycles n (start n);
+    single = single chip rom input m;
     bounded = λ n. at-most n (start n);
     prefix = prefix;
     rest = λ n k. rest n k (start n);
