@@ -6,13 +6,16 @@ use Prim.Native.Nat.{ℕ, zero, suc, _+_, _*_, _≤_}
 use native.Mathlib.Nat.{add-zero}
 use native.Mathlib.Numerals.{add-one}
 use native.Mathlib.Omega.{arith}
-use lib.ListN.{length, drop}
+use lib.ListN.{getD, length, drop}
 use lib.Seq.{drop-drop}
 use borrow.Author.Tests.{eq-eqb, ne-eqb}
 use Rattle.memory.specs.Chip.{upd17132}
-use Rattle.cpu.specs.Reply.{Reply}
+use Rattle.cpu.specs.Cost.{nextCycles, none, plus, stepCost}
+use Rattle.cpu.specs.Reply.{Reply, Step}
 use Rattle.machine.specs.Parts.{resetMachine}
 use Rattle.cpu.specs.Step.{stepOf}
+use Rattle.cpu.specs.declared.Count.{Count}
+use Rattle.cpu.proofs.Costs.{cost-below, cost-cycles, cycles-few}
 use Rattle.machine.specs.declared.Input.{Input}
 use Rattle.machine.specs.declared.Machine.{Machine}
 use Rattle.station_file.specs.Station.{recordBytes}
@@ -59,21 +62,38 @@ module _ (rom : List ℕ) where
 
     -- a record that steps
     pub steps-so : (r : Reply) (after : Machine) → p .refusal ≡ 0 → record { reply = r; machine = after } ≡ stepOf upd17132 rom i (p .machine)
-        → fresh ≡ replied rom n (progressIn p) r after
+        → fresh ≡ replied rom n (progressIn p) (plus (p .count) (stepCost upd17132 rom i (p .machine))) r after
     unfolding recordOf
-    steps-so r after z e = rw (eq-eqb (p .refusal) 0 z, ← e)
+    steps-so r after z e = rw (eq-eqb (p .refusal) 0 z) (ap (λ (s : Step). replied rom n (progressIn p) (plus (p .count) (stepCost upd17132 rom i (p .machine))) (s .reply) (s .machine)) (sym e))
+
+    -- what was counted and the step's cost: the count of the definition, and little more than before
+    pub total-is : (cost sum : Count) → cost ≡ stepCost upd17132 rom i (p .machine) → sum ≡ plus (p .count) cost
+        → sum ≡ plus (p .count) (stepCost upd17132 rom i (p .machine))
+    total-is cost sum e f = f ∙ ap (plus (p .count)) e
+
+    pub small : (cost : Count) → cost ≡ stepCost upd17132 rom i (p .machine) → (cost .steps ≤ 1) × (cost .cycles ≤ 2)
+    small cost e =
+        let m = p .machine in
+        let r = stepOf upd17132 rom i m .reply in
+        rw e (cost-below r (nextCycles rom m), cost-cycles r (nextCycles rom m) (cycles-few (getD rom (m .control .pc) 0) (m .control .skip)))
+
+    abbrev Few : Count → Type 0
+    Few sum = (sum .steps ≤ p .count .steps + 1) × (sum .cycles ≤ p .count .cycles + 2)
+
+    pub few : (cost sum : Count) → cost ≡ stepCost upd17132 rom i (p .machine) → sum ≡ plus (p .count) cost → Few sum
+    few cost sum e f = rw f (omega (arith, small cost e .0), omega (arith, small cost e .1))
 
     -- the promise, by what a record comes to
     pub recorded : {x y : List ℕ} (r : code.Progress) (o : Outcome) → fresh ≡ o → progressIn r ≡ o .progress → Wrote 23 (p .at) (o .text) x y (r .at)
-        → r .steps ≤ p .steps + 1 → Recorded rom n i p x y r
-    recorded r o e s w c = record { same = rw e s; wrote = reworded (ap (λ (q : Outcome). q .text) (sym e)) w; counted = c }
+        → Few (r .count) → Recorded rom n i p x y r
+    recorded r o e s w f = record { same = rw e s; wrote = reworded (ap (λ (q : Outcome). q .text) (sym e)) w; counted = f .0; timed = f .1 }
 
     pub refused-before : (out : List ℕ) → (p .refusal ≡ 0 → ⊥) → Recorded rom n i p out out p
     unfolding recordOf
     refused-before out h =
         recorded p (record { progress = progressIn p; text = [] }) (rw (ne-eqb (p .refusal) 0 h)) refl
         (record { bytes = refl; place = omega arith; short = omega arith })
-        (omega arith)
+        (omega arith, omega arith)
 
   -- one record more
   module _ (xs : List ℕ) (k from : ℕ) (x y z : List ℕ) (p r : code.Progress) where
@@ -84,13 +104,15 @@ module _ (rom : List ℕ) where
           same = rw e (g .same);
           wrote = reworded (ap (λ (o : Outcome). o .text) (sym e)) (joined (23 * (k + 1)) (omega arith) (f .wrote) (g .wrote));
           counted = omega (arith, f .counted, g .counted);
+          timed = omega (arith, f .timed, g .timed);
         }
 
   pub begins : (xs : List ℕ) (from : ℕ) (out : List ℕ) (m : Machine) → m ≡ resetMachine
-      → RecordedTo rom xs 0 from out out (record { machine = m; steps = 0; refusal = 0; at = from })
+      → RecordedTo rom xs 0 from out out (record { machine = m; count = none; refusal = 0; at = from })
   begins xs from out m e =
       record {
-        same = ap (λ (x : Machine). record { machine = x; steps = 0; refusal = 0 }) e;
+        same = ap (λ (x : Machine). record { machine = x; count = none; refusal = 0 }) e;
         wrote = record { bytes = refl; place = omega arith; short = omega arith };
         counted = omega arith;
+        timed = omega arith;
       }

@@ -37,13 +37,14 @@ inputAt k xs =
 
 -- the progress that the code's state stands for
 abbrev pub progressIn : code.Progress → Progress
-progressIn p = record { machine = p .machine; steps = p .steps; refusal = p .refusal }
+progressIn p = record { machine = p .machine; count = p .count; refusal = p .refusal }
 
 -- one record, by the text that it adds
 pub record Recorded (rom : List ℕ) (number : ℕ) (i : Input) (p : code.Progress) (before after : List ℕ) (r : code.Progress) : Type 0 where
   pub same : progressIn r ≡ recordOf rom number i (progressIn p) .progress
   pub wrote : Wrote 23 (p .at) (recordOf rom number i (progressIn p) .text) before after (r .at)
-  pub counted : r .steps ≤ p .steps + 1
+  pub counted : r .count .steps ≤ p .count .steps + 1
+  pub timed : r .count .cycles ≤ p .count .cycles + 2
 
 -- the first so many records
 abbrev pub upTo : List ℕ → List ℕ → ℕ → Outcome
@@ -52,4 +53,5 @@ upTo rom inputs k = recordsOf rom 1 (inputsOf k inputs) begun
 pub record RecordedTo (rom inputs : List ℕ) (k from : ℕ) (before after : List ℕ) (r : code.Progress) : Type 0 where
   pub same : progressIn r ≡ upTo rom inputs k .progress
   pub wrote : Wrote (23 * k) from (upTo rom inputs k .text) before after (r .at)
-  pub counted : r .steps ≤ k
+  pub counted : r .count .steps ≤ k
+  pub timed : r .count .cycles ≤ 2 * k

@@ -2,15 +2,17 @@
 -- Assumes nothing.
 use mathlib.Core.Bool.{cond}
 use mathlib.Core.List.{List, [], _∷_, _++_}
-use Prim.Native.Nat.{ℕ, zero, suc, _+_, _/_}
+use Prim.Native.Nat.{ℕ, zero, suc, _/_}
 use lib.Dec.{eqb}
 use lib.ListN.{getD, length, take, drop}
 use Rattle.text.specs.Hex.{hexDigitsOf}
 use Rattle.memory.specs.Chip.{upd17132}
 use Rattle.memory.specs.Names as names
+use Rattle.cpu.specs.Cost.{none, plus, stepCost}
 use Rattle.cpu.specs.Reply.{Reply, done, inStandby, refused}
 use Rattle.machine.specs.Parts.{cellsOf, resetMachine}
 use Rattle.cpu.specs.Step.{stepOf}
+use Rattle.cpu.specs.declared.Count.{Count}
 use Rattle.machine.specs.declared.Input.{Input}
 use Rattle.machine.specs.declared.Machine.{Machine}
 use Rattle.verifier.specs.Verdict as verdict
@@ -43,10 +45,10 @@ lineOf number word before after =
     decimal number ++ (space ∷ hex3 (before .control .pc)) ++ (space ∷ word) ++ (space ∷ hex3 (after .control .pc))
     ++ (space ∷ hex1 (after .control .levels)) ++ (space ∷ hex1 (getD (cellsOf after) names.PSW 0)) ++ newline
 
--- how far the records have come: the machine, the steps completed, and the refusal or 0
+-- how far the records have come: the machine, the steps completed with their cycles, and the refusal or 0
 pub record Progress : Type 0 where
   pub machine : Machine
-  pub steps : ℕ
+  pub count : Count
   pub refusal : ℕ
 
 -- what a record comes to, or several in turn, and what is printed for it
@@ -60,22 +62,22 @@ followed a b = record { progress = b .progress; text = a .text ++ b .text }
 
 module _ (rom : List ℕ) where
   -- a step that is completed or stays standing prints its line, a refusal none
-  abbrev pub replied : ℕ → Progress → Reply → Machine → Outcome
-  replied number p done after = record {
-    progress = record { machine = after; steps = p .steps + 1; refusal = 0 };
+  abbrev pub replied : ℕ → Progress → Count → Reply → Machine → Outcome
+  replied number p count done after = record {
+    progress = record { machine = after; count = count; refusal = 0 };
     text = lineOf number (hexDigitsOf (getD rom (p .machine .control .pc) 0)) (p .machine) after;
   }
-  replied number p inStandby after = record {
-    progress = record { machine = after; steps = p .steps; refusal = 0 };
+  replied number p count inStandby after = record {
+    progress = record { machine = after; count = count; refusal = 0 };
     text = lineOf number dashes (p .machine) after;
   }
-  replied number p (refused n) after = record { progress = record { machine = after; steps = p .steps; refusal = n }; text = [] }
+  replied number p count (refused n) after = record { progress = record { machine = after; count = count; refusal = n }; text = [] }
 
   -- one record; after a refusal there is none
   unfoldable pub recordOf : ℕ → Input → Progress → Outcome
   recordOf number i p =
       cond (eqb (p .refusal) 0)
-      (let s = stepOf upd17132 rom i (p .machine) in replied number p (s .reply) (s .machine))
+      (let s = stepOf upd17132 rom i (p .machine) in replied number p (plus (p .count) (stepCost upd17132 rom i (p .machine))) (s .reply) (s .machine))
       (record { progress = p; text = [] })
 
   -- the records in turn, numbered from 1
@@ -86,11 +88,14 @@ module _ (rom : List ℕ) where
       followed first (recordsOf (suc number) is (first .progress))
 
 abbrev pub begun : Progress
-begun = record { machine = resetMachine; steps = 0; refusal = 0 }
+begun = record { machine = resetMachine; count = none; refusal = 0 }
 
--- "Last END, completed steps, refusal or 0"
+-- "Last END, completed steps, refusal or 0"; document 02, E3, "END gets the cycles between steps and refusal"
+abbrev pub endOf : Count → ℕ → List ℕ
+endOf c refusal = endText ++ decimal (c .steps) ++ (space ∷ decimal (c .cycles)) ++ (space ∷ decimal refusal) ++ newline
+
 abbrev pub endLine : Progress → List ℕ
-endLine p = endText ++ decimal (p .steps) ++ (space ∷ decimal (p .refusal)) ++ newline
+endLine p = endOf (p .count) (p .refusal)
 
 unfoldable pub stationText : Station → List ℕ
 stationText s =

@@ -6,6 +6,7 @@ mod put;
 mod steps;
 mod whole;
 
+use cpu::Count;
 pub use file::transcript;
 use machine::Machine;
 
@@ -20,7 +21,7 @@ pub enum Printed {
 // How far the records have come: the machine, the steps completed, the refusal or 0, and where the text goes on.
 struct Progress {
     machine: Machine,
-    steps: u16,
+    count: Count,
     refusal: u16,
     at: usize,
 }

@@ -1,13 +1,14 @@
 // The lines.
 ghost use mathlib.Core.Path.{_≡_};
-ghost use mathlib.Core.List.{_++_, _∷_};
+ghost use mathlib.Core.List.{_++_};
 ghost use Prim.Native.Nat.{_≤_};
 ghost use Rattle.verifier.specs.Verdict.{fail};
 ghost use Rattle.transcript.specs.Printing.{Wrote, fieldsOf};
-ghost use Rattle.transcript.specs.Text.{space, newline, fileText, endText, decimal};
-ghost use Rattle.transcript.specs.Transcript.{verdictText};
+ghost use Rattle.transcript.specs.Text.{newline, fileText, decimal};
+ghost use Rattle.transcript.specs.Transcript.{endOf, verdictText};
 use crate::put::put;
 use crate::put::put_decimal;
+use cpu::Count;
 use machine::Machine;
 use memory::Memory;
 
@@ -74,15 +75,19 @@ pub fn put_failure(out: &mut [u8], at: usize, word: u16, rule: u8) -> usize
 }
 
 // The last line.
-pub fn put_end(out: &mut [u8], at: usize, steps: u16, refusal: u16) -> usize
+pub fn put_end(out: &mut [u8], at: usize, count: Count, refusal: u16) -> usize
     requires { ⌜ at ≤ 800000 ⌝ }
-    ensures { λ r. ⌜ Wrote 16 at (endText ++ decimal steps ++ (space ∷ decimal refusal) ++ newline) (now (out .entry)) (now (out .exit)) r ⌝ }
+    requires { ⌜ count .steps ≤ 65535 ⌝ }
+    requires { ⌜ count .cycles ≤ 65535 ⌝ }
+    ensures { λ r. ⌜ Wrote 22 at (endOf count refusal) (now (out .entry)) (now (out .exit)) r ⌝ }
 {
     let second = put(out, at, b"END ");
-    let third = put_decimal(out, second, steps);
+    let third = put_decimal(out, second, count.steps as u16);
     let fourth = put(out, third, b" ");
-    let fifth = put_decimal(out, fourth, refusal);
-    put(out, fifth, b"\n")
+    let fifth = put_decimal(out, fourth, count.cycles as u16);
+    let sixth = put(out, fifth, b" ");
+    let seventh = put_decimal(out, sixth, refusal);
+    put(out, seventh, b"\n")
 }
 
 // The one line of a bad file.

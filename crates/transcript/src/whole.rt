@@ -33,5 +33,6 @@ pub fn put_station(rom: &[u16], sheet: &[u8], inputs: &[u8], out: &mut [u8]) -> 
 {
     let from = put_sheet(rom, sheet, out);
     let progress = put_records(rom, inputs, out, from);
-    put_end(out, progress.at, progress.steps, progress.refusal)
+    let count = progress.count;
+    put_end(out, progress.at, count, progress.refusal)
 }

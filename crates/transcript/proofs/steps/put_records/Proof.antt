@@ -21,7 +21,7 @@ loop-holds c = (omega arith, begins _ _ _ _ _ (c .reset .ensures))
 put-record-requires : tie.Need-put-record-requires Inv-loop μ-loop
 put-record-requires c κs =
     let w = c .before .before .before .loop .inv .1 in
-    (omega (arith, w .wrote .short), omega (arith, w .counted))
+    (omega (arith, w .wrote .short), (omega (arith, w .counted), omega (arith, w .timed)))
 
 loop-again : tie.Need-loop-again Inv-loop μ-loop
 loop-again c =
