@@ -38,7 +38,7 @@ filledInput byte =
     }
 
 abbrev pub filledRunReply : ℕ → ℕ → RunReply
-filledRunReply byte long = record { steps = long - 1; number = byte - 2 }
+filledRunReply byte long = record { count = record { steps = long - 1; cycles = long - 2 }; number = byte - 3 }
 
 abbrev pub filledVerdictReply : ℕ → ℕ → VerdictReply
 filledVerdictReply byte word = record { number = byte - 1; word = word - 2; rule = byte - 3 }

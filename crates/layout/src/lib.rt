@@ -3,6 +3,7 @@
 ghost use mathlib.Core.Path.{_≡_};
 ghost use Prim.Native.Nat.{_≤_};
 ghost use Rattle.layout.specs.Laid.{filledDecodedRow, filledEncodedRow, filledInput, laidOf, filledMachine, filledOutputReply, filledReadReply, filledRunReply, filledVerdictReply};
+use cpu::Count;
 use listing::DecodedRow;
 use listing::EncodedRow;
 use machine::Control;
@@ -61,12 +62,15 @@ fn input_with(byte: u8) -> Input
 }
 
 fn run_reply_with(byte: u8, long: u32) -> RunReply
-    requires { ⌜ (2 ≤ byte) × (1 ≤ long) ⌝ }
+    requires { ⌜ (3 ≤ byte) × (2 ≤ long) ⌝ }
     ensures { λ r. ⌜ r ≡ filledRunReply byte long ⌝ }
 {
     RunReply {
-        steps: long - 1,
-        number: byte - 2,
+        count: Count {
+            steps: long - 1,
+            cycles: long - 2,
+        },
+        number: byte - 3,
     }
 }
 

@@ -18,6 +18,6 @@ lentStepOf s = lentStep (s .machine) (replyNumber (s .reply))
 abbrev pub lentRun : Machine → RunReply → LentRun
 lentRun m r = record { machine = m; reply = r }
 
--- a run's steps, and its refusal or 0
+-- a run's steps with their cycles, and its refusal or 0
 abbrev pub lentRunOf : Run → LentRun
-lentRunOf r = lentRun (r .machine) (record { steps = r .steps; number = r .refusal })
+lentRunOf r = lentRun (r .machine) (record { count = r .count; number = r .refusal })

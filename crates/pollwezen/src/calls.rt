@@ -47,11 +47,12 @@ pub fn run_by_value(rom: &[u16], machine: Machine, input: Input, budget: u32) ->
 {
     let r = cpu::run(rom, machine, input, budget);
     let after = r.machine;
+    let count = r.count;
     let end = r.end;
     LentRun {
         machine: after,
         reply: RunReply {
-            steps: r.steps,
+            count: count,
             number: end.number(),
         },
     }

@@ -26,15 +26,16 @@ ghost use Rattle.pollwezen.specs.Lent.{lentRun, lentRunOf, lentStep, len
 ghost use Rattle.pollwezen.specs.Replies.{printReplyOf, readReplyOf, verdictReplyOf, writeReplyOf};
 use calls::run_by_value;
 use calls::step_by_parts;
+use cpu::Count;
 use listing::DecodedRow;
 use listing::EncodedRow;
 use machine::Input;
 use machine::Machine;
 
-// A run's steps, and its refusal or 0.
+// A run's steps with their cycles, and its refusal or 0.
 #[repr(C)]
 pub struct RunReply {
-    pub steps: u32,
+    pub count: Count,
     pub number: u8,
 }
 
