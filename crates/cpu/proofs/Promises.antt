@@ -14,8 +14,7 @@ use denote.Ref.{now}
 use denote.Triple.Clauses.{AtExit}
 use denote.Triple.Entry.{Args, Res}
 use Rattle.memory.specs.Chip.{upd17132}
-use Rattle.cpu.specs.Reply.{costOf}
-use Rattle.cpu.specs.Step.{stepOf}
+use Rattle.cpu.specs.Cost.{stepCost}
 use Rattle.cpu.proofs.running.step as step
 
 module _ {M : Type 1} (𝓤 : URA M) (H : Heap 𝓤) (A : Atoms 𝓤) (mem : Memory → SProp 𝓤) (runs : Routine → Fun 𝓤) where
@@ -25,5 +24,5 @@ module _ {M : Type 1} (𝓤 : URA M) (H : Heap 𝓤) (A : Atoms 𝓤) (mem : Mem
   -- a are the arguments, r the result, e the arguments at exit
   pub step-counts : (κs : Lfts 1) (a : Args step.signature κs) (r : Res step.signature κs) (e : AtExit step.ended κs)
       → ent 𝓤 (step.clauses 𝓤 H A mem runs κs a .ensures tt r e)
-      (fact 𝓤 (r .steps ≡ costOf (stepOf upd17132 (now (a .0)) (a .1 .1 .0) (a .1 .0) .reply) .steps))
+      (fact 𝓤 (r .count ≡ stepCost upd17132 (now (a .0)) (a .1 .1 .0) (a .1 .0)))
   step-counts κs a r e = second

@@ -59,10 +59,10 @@ pub fn cycles_at(rom: &[u16], regs: Regs) -> u32
     let Fetched::Word(word) = fetch(rom, regs.pc) else {
         return 1;
     };
-    if regs.skip != 0 {
-        return 1;
+    if regs.skip == 0 {
+        return flow_cycles(control::of_word(word));
     }
-    flow_cycles(control::of_word(word))
+    1
 }
 
 // Whether the machine stays in standby.

@@ -35,17 +35,17 @@ returns c =
 
 returns-2 : tie.Need-returns-2
 returns-2 c =
-    let s = c .before .before .before .before .before .before .before .args in
-    skipped (getD (s .rom .now) (s .regs .pc) 0) (s .regs .skip) (is-marked _ (c .if1 .taken))
-
-returns-3 : tie.Need-returns-3
-returns-3 c =
     let s = c .before .before .before .before .before .before .before .before .before .args in
     let w = word-at (s .rom .now) (s .regs .pc) _ (sym (c .before .before .before .before .before .before .before .fetch .ensures) ∙ c .before .before .before .before .before .word .given .1) in
     c .flow-cycles .ensures
     ∙ ap (λ (f : Flow). cond (readsTable f) 2 1) (c .before .of-word .ensures)
-    ∙ run-so _ (s .regs .skip) (not-marked _ (c .before .before .if1 .left))
+    ∙ run-so _ (s .regs .skip) (not-marked _ (c .before .before .if1 .taken))
     ∙ ap (λ (x : ℕ). cyclesOf x (s .regs .skip)) (sym (w .1))
+
+returns-3 : tie.Need-returns-3
+returns-3 c =
+    let s = c .before .before .before .before .before .before .before .args in
+    skipped (getD (s .rom .now) (s .regs .pc) 0) (s .regs .skip) (is-marked _ (c .if1 .left))
 
 pub cycles-at-spec : {M : Type 1} → statement M
 cycles-at-spec =
@@ -55,7 +55,7 @@ cycles-at-spec =
     (λ c. search needs)
     (λ c. search needs)
     returns
+    (λ c κs. search needs)
+    (λ c κs. search needs)
     returns-2
-    (λ c κs. search needs)
-    (λ c κs. search needs)
     returns-3)
