@@ -108,6 +108,26 @@ pub const RELEASE_OF_TWO: u32 = 37;
 pub const ROM_ONE_MORE: u32 = 38;
 /// A budget of 65,536 is in range.
 pub const BUDGET_ONE_MORE: u32 = 39;
+/// MOVT takes one cycle.
+pub const MOVT_ONE_CYCLE: u32 = 40;
+/// A skipped MOVT takes two cycles.
+pub const SKIPPED_MOVT_TWO: u32 = 41;
+/// A skipped word takes no cycle.
+pub const SKIPPED_FREE: u32 = 42;
+/// The cycles of a refused step are counted.
+pub const REFUSED_CYCLES: u32 = 43;
+/// A refused run reports no cycles.
+pub const REFUSED_RUN_NO_CYCLES: u32 = 44;
+/// A step that stays in standby takes a cycle.
+pub const STANDBY_CYCLE: u32 = 45;
+/// A budget counts cycles.
+pub const BUDGET_OF_CYCLES: u32 = 46;
+/// A run that ends in standby reports cycles for the rest of its budget.
+pub const CYCLES_OF_BUDGET: u32 = 47;
+/// Cycles are counted in 16 bits.
+pub const CYCLES_OF_16_BITS: u32 = 48;
+/// `END` has the cycles before the steps.
+pub const END_EXCHANGED: u32 = 49;
 
 /// The number of the last fault.
-pub const LAST: u32 = BUDGET_ONE_MORE;
+pub const LAST: u32 = END_EXCHANGED;

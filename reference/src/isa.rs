@@ -114,6 +114,9 @@ pub(crate) fn taken_for(code: u16) -> u16 {
     }
 }
 
+/// The word of MOVT, which has no operand.
+pub(crate) const MOVT: u16 = opcode::GROUP << 11 | 0x1 << 4;
+
 /// The word of RETSK, which has no operand.
 pub(crate) const RETSK: u16 = opcode::GROUP << 11 | 0x1 << 8 | 0xE << 4;
 

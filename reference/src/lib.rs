@@ -1,11 +1,13 @@
 //! A second emulator of the NEC uPD17132, written from the papers alone.
 //!
-//! "Document 01" below is the scope paper; "000", "004" and "001" are the
-//! source manuals in the order in which they decide.
+//! "Document 01" below is the scope paper and "document 02" its list of
+//! changes, E1 to E14; "000", "004" and "001" are the source manuals in the
+//! order in which they decide.
 
 #![forbid(unsafe_code)]
 
 mod alu;
+pub mod count;
 mod execute;
 pub mod fault;
 pub mod isa;
@@ -16,6 +18,7 @@ pub mod step;
 pub mod transcript;
 pub mod verify;
 
+pub use count::Count;
 pub use isa::{decode, encode, Instruction};
 pub use machine::{Input, Machine};
 pub use station::Station;

@@ -1,6 +1,7 @@
 //! A single step and a counted run (document 01, "Results" and "Refusal
 //! numbers"; source 000, chapters 3, 6 and 18).
 
+use crate::count::Count;
 use crate::execute::following;
 use crate::fault::{self, fault};
 use crate::isa::{decode, unsupported};
@@ -20,8 +21,8 @@ pub enum Answer {
 /// What a run reports.
 #[derive(Clone, Copy, Debug, PartialEq, Eq)]
 pub struct Report {
-    /// Completed steps.
-    pub steps: u32,
+    /// Its completed steps, in a refused run too.
+    pub count: Count,
     /// The refusal that ended the run, or 0.
     pub refusal: u8,
 }
@@ -31,15 +32,26 @@ pub const MAX_BUDGET: u32 = 65_535;
 
 /// One step.
 pub fn step(rom: &[u16], machine: &mut Machine, input: &Input) -> Answer {
+    counted_step(rom, machine, input, &mut Count::default())
+}
+
+/// One step, added to a count.
+pub(crate) fn counted_step(
+    rom: &[u16],
+    machine: &mut Machine,
+    input: &Input,
+    count: &mut Count,
+) -> Answer {
     if !all_in_range(rom, machine, input) {
         return Answer::Refused(1);
     }
     if stays_standing(machine, input) {
+        count.stood();
         return Answer::Standby;
     }
     let stood = machine.standby;
     machine.standby = 0;
-    match advance(rom, machine, input) {
+    match advance(rom, machine, input, count) {
         Ok(()) => Answer::Done,
         Err(refusal) => {
             put_back(machine, stood);
@@ -52,29 +64,44 @@ pub fn step(rom: &[u16], machine: &mut Machine, input: &Input) -> Answer {
 /// keeps the machine in range.
 pub fn run(rom: &[u16], machine: &mut Machine, input: &Input, budget: u32) -> Report {
     let most = MAX_BUDGET + u32::from(fault(fault::BUDGET_ONE_MORE));
+    let mut count = Count::default();
     if budget > most || !all_in_range(rom, machine, input) {
-        return Report { steps: 0, refusal: 1 };
+        return Report { count, refusal: 1 };
     }
     if budget == 0 {
-        return Report { steps: 0, refusal: 0 };
+        return Report { count, refusal: 0 };
     }
     if stays_standing(machine, input) {
-        let steps = u32::from(fault(fault::STANDBY_COUNTED));
-        return Report { steps, refusal: 0 };
+        count.stood();
+        count.steps += u32::from(fault(fault::STANDBY_COUNTED));
+        return Report { count, refusal: 0 };
     }
     let stood = machine.standby;
     machine.standby = 0;
-    let mut steps = 0;
-    while steps < budget && machine.standby == 0 {
-        if let Err(refusal) = advance(rom, machine, input) {
-            if steps == 0 {
+    while spent(&count) < budget && machine.standby == 0 {
+        if let Err(refusal) = advance(rom, machine, input, &mut count) {
+            if count.steps == 0 {
                 put_back(machine, stood);
             }
-            return Report { steps, refusal };
+            if fault(fault::REFUSED_RUN_NO_CYCLES) {
+                count.cycles = 0;
+            }
+            return Report { count, refusal };
         }
-        steps += 1;
     }
-    Report { steps, refusal: 0 }
+    if fault(fault::CYCLES_OF_BUDGET) {
+        count.cycles += budget - count.steps;
+    }
+    Report { count, refusal: 0 }
+}
+
+/// What a budget counts: steps.
+#[inline(always)]
+fn spent(count: &Count) -> u32 {
+    if fault(fault::BUDGET_OF_CYCLES) {
+        return count.cycles;
+    }
+    count.steps
 }
 
 /// Refusal 1 for a step or run, but for the budget.
@@ -95,22 +122,26 @@ fn put_back(machine: &mut Machine, stood: u8) {
     }
 }
 
-/// One step of a machine in range and not in standby.
+/// One step of a machine in range and not in standby, added to a count.
 #[inline(always)]
-fn advance(rom: &[u16], machine: &mut Machine, input: &Input) -> Result<(), u8> {
+fn advance(rom: &[u16], machine: &mut Machine, input: &Input, count: &mut Count) -> Result<(), u8> {
     let Some(&word) = rom.get(usize::from(machine.pc)) else {
         return Err(2);
     };
-    if machine.skip != 0 {
-        return skip_word(rom, machine, word);
-    }
-    machine.pc = machine.execute(rom, input, word)?;
+    let skipped = machine.skip != 0;
+    machine.pc = if skipped {
+        skip_word(rom, machine, word)?
+    } else {
+        machine.execute(rom, input, word).inspect_err(|_| count.refused(word))?
+    };
+    count.add(word, skipped);
     Ok(())
 }
 
-/// A skipped word is a NOP, undecoded; it meets only refusals 1 and 2.
+/// The PC after a skipped word. It is a NOP, undecoded, and meets only
+/// refusals 1 and 2.
 #[inline(always)]
-fn skip_word(rom: &[u16], machine: &mut Machine, word: u16) -> Result<(), u8> {
+fn skip_word(rom: &[u16], machine: &mut Machine, word: u16) -> Result<u16, u8> {
     if fault(fault::SKIPPED_DECODED) {
         match decode(word) {
             None => return Err(3),
@@ -119,6 +150,5 @@ fn skip_word(rom: &[u16], machine: &mut Machine, word: u16) -> Result<(), u8> {
         }
     }
     machine.skip = 0;
-    machine.pc = following(rom, machine.pc);
-    Ok(())
+    Ok(following(rom, machine.pc))
 }

@@ -1,8 +1,11 @@
-//! The text that the program `station` prints (document 01, "Station file").
+//! The text that the program `station` prints (document 01, "Station file";
+//! the cycles in its last line are document 02's, E3).
 
+use crate::count::Count;
+use crate::fault::{self, fault};
 use crate::machine::Machine;
 use crate::station::{read, Station};
-use crate::step::{step, Answer};
+use crate::step::{counted_step, Answer};
 use crate::verify::{verify, Verdict};
 
 /// No line is longer than "4095 3FF FFFF 3FF 5 F\n".
@@ -46,10 +49,10 @@ impl Text {
     /// From reset, a line per input record up to a refusal, then the end line.
     fn steps(&mut self, station: &Station) {
         let mut machine = Machine::reset();
-        let (mut steps, mut refusal) = (0, 0);
+        let (mut count, mut refusal) = (Count::default(), 0);
         for (record, input) in (1..).zip(&station.inputs) {
             let before = machine.pc;
-            let word = match step(&station.rom, &mut machine, input) {
+            let word = match counted_step(&station.rom, &mut machine, input, &mut count) {
                 Answer::Done => Some(station.rom[usize::from(before)]),
                 Answer::Standby => None,
                 Answer::Refused(number) => {
@@ -57,18 +60,27 @@ impl Text {
                     break;
                 }
             };
-            steps += u16::from(word.is_some());
             self.step(record, before, word, &machine);
+        }
+        self.end(count, refusal);
+    }
+
+    /// The end line: steps, cycles, refusal or 0.
+    fn end(&mut self, Count { mut steps, mut cycles }: Count, refusal: u8) {
+        if fault(fault::END_EXCHANGED) {
+            (steps, cycles) = (cycles, steps);
         }
         self.0.push_str("END ");
         self.decimal(steps);
+        self.0.push(' ');
+        self.decimal(cycles);
         self.0.push(' ');
         self.decimal(refusal.into());
         self.0.push('\n');
     }
 
     /// One record's line; without a word the machine stayed in standby.
-    fn step(&mut self, record: u16, before: u16, word: Option<u16>, after: &Machine) {
+    fn step(&mut self, record: u32, before: u16, word: Option<u16>, after: &Machine) {
         self.decimal(record);
         self.0.push(' ');
         self.hex(before, 3);
@@ -89,19 +101,19 @@ impl Text {
     /// So many hex digits.
     fn hex(&mut self, value: u16, digits: u16) {
         for place in (0..digits).rev() {
-            self.digit(value >> (4 * place) & 0xF);
+            self.digit(u32::from(value >> (4 * place) & 0xF));
         }
     }
 
     /// A number without zeros in front.
-    fn decimal(&mut self, value: u16) {
+    fn decimal(&mut self, value: u32) {
         if value >= 10 {
             self.decimal(value / 10);
         }
         self.digit(value % 10);
     }
 
-    fn digit(&mut self, value: u16) {
-        self.0.push(char::from(b"0123456789ABCDEF"[usize::from(value)]));
+    fn digit(&mut self, value: u32) {
+        self.0.push(char::from(b"0123456789ABCDEF"[value as usize]));
     }
 }

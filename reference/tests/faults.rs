@@ -5,7 +5,8 @@
 
 use reference::fault::*;
 use reference::Instruction::{self, *};
-use reference::{decode, encode, run, station, step, verify, Input, Machine, Station};
+use reference::{decode, encode, run, station, step, transcript, verify};
+use reference::{Input, Machine, Station};
 
 const PSW: u8 = Machine::PSW;
 
@@ -40,6 +41,11 @@ fn changed(change: fn(&mut Machine), release: u8, words: &[u16]) -> String {
     format!("{answer:?} {machine:?}")
 }
 
+/// What a run from reset reports.
+fn ran(program: &[Instruction], budget: u32) -> String {
+    format!("{:?}", run(&rom(program), &mut Machine::reset(), &Input::default(), budget))
+}
+
 fn full(machine: &mut Machine) {
     machine.levels = 5;
     machine.stack = [9; 5];
@@ -60,7 +66,7 @@ fn witness(fault: u32) -> String {
         COMPARE_SETS_Z => quiet(&[(PSW, 8)], AddMN { m: 0x10, n: 0 }),
         INC_IX_CLEARS_MPE => quiet(&[(0x7A, 8)], IncIx),
         MOVT_WITHOUT_LEVEL => changed(full, 0, &[word(Movt)]),
-        STANDBY_COUNTED => {
+        STANDBY_COUNTED | STANDBY_CYCLE => {
             let mut machine = Machine::reset();
             machine.standby = 1;
             format!("{:?}", run(&[word(Nop)], &mut machine, &Input::default(), 5))
@@ -105,8 +111,19 @@ fn witness(fault: u32) -> String {
         PC_PAST_LAST => changed(|m| m.pc = 1024, 0, &[word(Nop)]),
         RELEASE_OF_TWO => changed(|_| (), 2, &[word(Nop)]),
         ROM_ONE_MORE => changed(|_| (), 0, &[word(Nop); 1025]),
-        BUDGET_ONE_MORE => {
-            format!("{:?}", run(&[word(Nop)], &mut Machine::reset(), &Input::default(), 65_536))
+        BUDGET_ONE_MORE => ran(&[Nop], 65_536),
+        MOVT_ONE_CYCLE => ran(&[Movt], 1),
+        SKIPPED_MOVT_TWO => ran(&[Skt { m: 0x10, n: 0 }, Movt], 2),
+        SKIPPED_FREE => ran(&[Skt { m: 0x10, n: 0 }, Nop], 2),
+        REFUSED_CYCLES => ran(&[Nop, Ret], 2),
+        REFUSED_RUN_NO_CYCLES => ran(&[Nop, Ret], 2),
+        BUDGET_OF_CYCLES => ran(&[Movt, Nop], 2),
+        CYCLES_OF_BUDGET => ran(&[Movt, Halt { cond: 0 }], 5),
+        CYCLES_OF_16_BITS => ran(&[Movt, Br { addr: 0 }], 65_535),
+        END_EXCHANGED => {
+            let station =
+                Station { rom: rom(&[Movt]), depths: vec![], inputs: vec![Input::default()] };
+            transcript(&station::write(&station).expect("a good station"))
         }
         _ => unreachable!("fault {fault}"),
     }

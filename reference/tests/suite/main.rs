@@ -3,6 +3,7 @@
 mod addressing;
 mod arithmetic;
 mod check;
+mod cycles;
 mod files;
 mod kit;
 mod lines;

@@ -3,7 +3,7 @@
 
 use crate::kit::*;
 use reference::Instruction::{self, *};
-use reference::{encode, run, step, Answer, Input, Machine, Report};
+use reference::{encode, run, step, Answer, Count, Input, Machine, Report};
 
 /// The step and the run are refused so, and leave the record as it came.
 fn refused(rom: &[u16], machine: &Machine, input: &Input, number: u8) {
@@ -11,7 +11,7 @@ fn refused(rom: &[u16], machine: &Machine, input: &Input, number: u8) {
     assert_eq!(step(rom, &mut after, input), Answer::Refused(number));
     assert_eq!(&after, machine);
     let report = run(rom, &mut after, input, 5);
-    assert_eq!(report, Report { steps: 0, refusal: number });
+    assert_eq!(report, Report { count: Count::default(), refusal: number });
     assert_eq!(&after, machine);
 }
 

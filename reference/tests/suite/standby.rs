@@ -2,14 +2,15 @@
 
 use crate::kit::*;
 use reference::Instruction::*;
-use reference::{run, step, Answer, Input, Machine, Report};
+use reference::{run, step, Answer, Count, Input, Machine, Report};
 
 fn released() -> Input {
     Input { release: 1, ..quiet() }
 }
 
+/// No MOVT stands in these programs, so cycles are steps.
 fn report(steps: u32, refusal: u8) -> Report {
-    Report { steps, refusal }
+    Report { count: Count { steps, cycles: steps }, refusal }
 }
 
 /// HALT and STOP with every operand move PC on and set the mark.

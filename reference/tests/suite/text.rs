@@ -14,7 +14,7 @@ fn text(program: &[Instruction], depths: &[u8], inputs: &[Input]) -> String {
 fn the_example() {
     let mut file = vec![0, 1, 0, 2, 0xE8, 0x05, 0x60, 0x01, 0, 2, 0, 0, 0, 2];
     file.extend([0; 22]);
-    let wanted = "SHEET PASS\n1 000 E805 001 0 0\n2 001 6001 001 0 0\nEND 2 0\n";
+    let wanted = "SHEET PASS\n1 000 E805 001 0 0\n2 001 6001 001 0 0\nEND 2 2 0\n";
     assert_eq!(transcript(&file), wanted);
 }
 
@@ -29,7 +29,7 @@ fn bad_files() {
 
 #[test]
 fn no_sheet_and_no_input() {
-    assert_eq!(text(&[Nop], &[], &[]), "SHEET NONE\nEND 0 0\n");
+    assert_eq!(text(&[Nop], &[], &[]), "SHEET NONE\nEND 0 0 0\n");
 }
 
 /// A sheet that fails does not stop it; a refusal prints no line.
@@ -40,9 +40,9 @@ fn failed_sheet_and_refusal() {
     program[11] = Ret;
     let mut depths = vec![0; 12];
     depths[11] = 1;
-    let wanted = "SHEET FAIL 00A 4\n1 000 E00B 00B 1 0\n2 00B 38E0 001 0 0\nEND 2 0\n";
+    let wanted = "SHEET FAIL 00A 4\n1 000 E00B 00B 1 0\n2 00B 38E0 001 0 0\nEND 2 2 0\n";
     assert_eq!(text(&program, &depths, &[quiet(); 2]), wanted);
-    let wanted = "SHEET FAIL 000 6\nEND 0 7\n";
+    let wanted = "SHEET FAIL 000 6\nEND 0 0 7\n";
     assert_eq!(text(&[Ret], &[0], &[quiet(); 3]), wanted);
 }
 
@@ -63,7 +63,7 @@ fn standby_and_skip() {
         6 004 6000 000 0 4\n\
         7 000 3BF0 001 0 4\n\
         8 001 ---- 001 0 4\n\
-        END 6 0\n";
+        END 6 6 0\n";
     assert_eq!(text(&program, &[], &inputs), wanted);
 }
 
@@ -73,9 +73,9 @@ fn record_numbers_are_decimal() {
     for record in ["\n9 ", "\n10 ", "\n99 ", "\n100 ", "\n909 ", "\n1000 ", "\n4095 "] {
         assert_eq!(all.matches(record).count(), 1, "{record:?}");
     }
-    assert!(all.ends_with("\n4095 000 6000 000 0 0\nEND 4095 0\n"));
+    assert!(all.ends_with("\n4095 000 6000 000 0 0\nEND 4095 4095 0\n"));
     // 4,095 lines of 18 bytes and a number each, SHEET PASS and END.
-    assert_eq!(all.len(), 4095 * 18 + 9 + 2 * 90 + 3 * 900 + 4 * 3096 + 11 + 11);
+    assert_eq!(all.len(), 4095 * 18 + 9 + 2 * 90 + 3 * 900 + 4 * 3096 + 11 + 16);
 }
 
 /// Hex digits from A on, five levels, and every digit of an address.
@@ -88,5 +88,37 @@ fn digits() {
     }
     program[0x31F] = MovMN { m: 0x7F, n: 0xF };
     let all = text(&program, &[], &[quiet(); 7]);
-    assert!(all.ends_with("\n6 30F E31F 31F 5 0\n7 31F EFFF 320 5 F\nEND 7 0\n"), "{all}");
+    assert!(all.ends_with("\n6 30F E31F 31F 5 0\n7 31F EFFF 320 5 F\nEND 7 7 0\n"), "{all}");
+}
+
+/// Document 02, E3: `END` has the cycles between steps and refusal. SKT of
+/// P0B's bit 3 passes over the MOVT.
+#[test]
+fn cycles() {
+    let program = [Skt { m: 0x71, n: 8 }, Movt, Br { addr: 0 }];
+    let skips = Input { pins: [0, 8, 0, 0, 0], ..quiet() };
+    let inputs = [quiet(), quiet(), quiet(), skips, skips, skips];
+    let wanted = "SHEET NONE\n\
+        1 000 F718 001 0 0\n\
+        2 001 3810 002 0 0\n\
+        3 002 6000 000 0 0\n\
+        4 000 F718 001 0 0\n\
+        5 001 3810 002 0 0\n\
+        6 002 6000 000 0 0\n\
+        END 6 7 0\n";
+    assert_eq!(text(&program, &[], &inputs), wanted);
+}
+
+/// The last line with a refused MOVT, in standby, and at its longest.
+#[test]
+fn cycles_at_the_end() {
+    let end = |program: &[Instruction], records: usize| {
+        let all = text(program, &[], &vec![quiet(); records]);
+        all.lines().last().expect("a last line").to_string()
+    };
+    assert_eq!(end(&[Movt, mov(AR0, 3), Movt], 5), "END 2 3 8");
+    assert_eq!(end(&[Movt, PushAr, PushAr, PushAr, PushAr, PushAr, Movt], 9), "END 6 7 6");
+    assert_eq!(end(&[Movt, Movt], 9), "END 2 4 2");
+    assert_eq!(end(&[Movt, Halt { cond: 0 }], 9), "END 2 3 0");
+    assert_eq!(end(&[Movt; 1024], 4095), "END 4095 8190 0");
 }

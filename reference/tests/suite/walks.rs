@@ -2,7 +2,8 @@
 
 use crate::kit::*;
 use reference::Instruction::{self, *};
-use reference::{decode, encode, run, step, verify, Answer, Input, Machine, Verdict};
+use reference::{decode, encode, run, step, verify};
+use reference::{Answer, Count, Input, Machine, Report, Verdict};
 
 /// Whatever comes, a step keeps the range, and a refused one the record.
 #[test]
@@ -24,39 +25,58 @@ fn random_steps() {
     }
 }
 
-/// A run is its steps, one after the other.
-fn run_by_steps(rom: &[u16], machine: &mut Machine, input: &Input, budget: u32) -> (u32, u8) {
-    for steps in 0..budget {
+/// A run is its steps, one after the other, and a MOVT that is not skipped
+/// takes a cycle more.
+fn run_by_steps(rom: &[u16], machine: &mut Machine, input: &Input, budget: u32) -> Report {
+    let mut count = Count::default();
+    while count.steps < budget {
+        let skipped = machine.skip == 1;
+        let word = rom.get(usize::from(machine.pc)).and_then(|&word| decode(word));
         match step(rom, machine, input) {
-            Answer::Done if machine.standby == 1 => return (steps + 1, 0),
-            Answer::Done => {}
-            Answer::Standby => return (steps, 0),
-            Answer::Refused(number) => return (steps, number),
+            Answer::Done => {
+                count.steps += 1;
+                count.cycles += if word == Some(Movt) && !skipped { 2 } else { 1 };
+            }
+            Answer::Standby => break,
+            Answer::Refused(refusal) => return Report { count, refusal },
+        }
+        if machine.standby == 1 {
+            break;
         }
     }
-    (budget, 0)
+    Report { count, refusal: 0 }
 }
 
 #[test]
 fn random_runs() {
     let mut random = Random::new(2);
+    let mut longer = 0;
     for _ in 0..30_000 {
         let length = if random.below(8) == 0 { 1024 } else { 1 + random.below(40) };
         let rom: Vec<u16> = (0..length).map(|_| likely_word(&mut random, length)).collect();
         let mut machine = random.machine();
         machine.pc = random.below(length) as u16;
+        // Mostly a table that lies in the ROM.
+        if random.below(4) > 0 {
+            machine.cells[0x74..0x77].fill(0);
+        }
         let mut twin = machine.clone();
         let input = random.input();
         let budget = random.below(60) as u32;
         let report = run(&rom, &mut machine, &input, budget);
-        let wanted = run_by_steps(&rom, &mut twin, &input, budget);
-        assert_eq!((report.steps, report.refusal), wanted);
+        assert_eq!(report, run_by_steps(&rom, &mut twin, &input, budget));
         assert_eq!(machine, twin);
+        longer += u32::from(report.count.cycles > report.count.steps);
     }
+    assert!(longer > 1_000, "{longer} runs with a MOVT");
 }
 
-/// A word that is an instruction; BR and CALL stay below `length`.
+/// A word that is an instruction, at times MOVT; BR and CALL stay below
+/// `length`.
 fn likely_word(random: &mut Random, length: u64) -> u16 {
+    if random.below(16) == 0 {
+        return encode(Movt).unwrap();
+    }
     loop {
         let word = random.word();
         match decode(word) {
@@ -135,7 +155,7 @@ fn passed_roms() {
                 let budget = random.below(50) as u32;
                 let report = run(&rom, &mut machine, &input, budget);
                 assert_eq!(report.refusal, 0);
-                for _ in 0..report.steps {
+                for _ in 0..report.count.steps {
                     open = counted(&rom, &twin, open);
                     assert_eq!(step(&rom, &mut twin, &input), Answer::Done);
                     assert_eq!(depths[usize::from(twin.pc)], open);
