@@ -49,7 +49,7 @@ extern "C" {
 #define POLLWEZEN_WORDS 1024        /* ROM words, and sheet entries */
 #define POLLWEZEN_INPUT_BYTES 45045 /* 4,095 input records of eleven bytes */
 #define POLLWEZEN_FILE_BYTES 48125
-#define POLLWEZEN_TEXT_BYTES 100000 /* the longest text has 89,011 */
+#define POLLWEZEN_TEXT_BYTES 100000 /* the longest text has 89,016 */
 
 /* The machine's record. The marks are 0 or 1. */
 typedef struct {
@@ -69,9 +69,11 @@ typedef struct {
     uint8_t release;
 } pollwezen_input;
 
-/* The steps that a run completed, and its refusal or POLLWEZEN_DONE. */
+/* The steps that a run completed, the cycles that these took, and its refusal or POLLWEZEN_DONE. MOVT takes two cycles and every
+ * other step one, a skipped MOVT too. */
 typedef struct {
     uint32_t steps;
+    uint32_t cycles;
     uint8_t number;
 } pollwezen_run_reply;
 
@@ -124,11 +126,11 @@ typedef struct {
 
 pollwezen_machine pollwezen_reset(void);
 
-/* One step on the lent record. A refusal leaves it as it came. */
+/* One step on the lent record. A refusal leaves it as it came. A run with a budget of 1 tells the step's cycles too. */
 uint8_t pollwezen_step(const uint16_t *rom, size_t words, pollwezen_machine *machine, pollwezen_input input);
 
 /* A counted run on the lent record, of 0 to 65,535 steps. It ends at a refusal, in standby or at the budget. A refused run
- * keeps the state of its completed steps. */
+ * keeps the state of its completed steps and reports these. */
 pollwezen_run_reply pollwezen_run(const uint16_t *rom, size_t words, pollwezen_machine *machine, pollwezen_input input,
                                   uint32_t budget);
 

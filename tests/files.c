@@ -9,7 +9,7 @@
 static const uint8_t example[] = {0, 1, 0, 2, 0xE8, 0x05, 0x60, 0x01, 0, 2, 0, 0, 0, 2,
                                   0, 0, 0, 0, 0, 0, 0, 0, 0, 0, 0,
                                   0, 0, 0, 0, 0, 0, 0, 0, 0, 0, 0};
-static const char text[] = "SHEET PASS\n1 000 E805 001 0 0\n2 001 6001 001 0 0\nEND 2 0\n";
+static const char text[] = "SHEET PASS\n1 000 E805 001 0 0\n2 001 6001 001 0 0\nEND 2 2 0\n";
 
 static uint16_t rom[POLLWEZEN_WORDS];
 static uint8_t sheet[POLLWEZEN_WORDS], inputs[POLLWEZEN_INPUT_BYTES], out[POLLWEZEN_TEXT_BYTES];

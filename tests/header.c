@@ -70,27 +70,55 @@ static void out_of_range(void) {
         pollwezen_run_reply ran;
         expect(pollwezen_step(program, 5, &r, in) == 1 && same(&r, &before), "a step out of range");
         ran = pollwezen_run(program, 5, &r, in, 3);
-        expect(ran.number == 1 && ran.steps == 0 && same(&r, &before), "a run out of range");
+        expect(ran.number == 1 && ran.steps == 0 && ran.cycles == 0 && same(&r, &before), "a run out of range");
     }
     pollwezen_machine r = pollwezen_reset(), before = r;
     expect(pollwezen_step(program, 0, &r, none) == 1 && same(&r, &before), "a step in a ROM of no words");
     pollwezen_run_reply ran = pollwezen_run(program, 0, &r, none, 3);
-    expect(ran.number == 1 && ran.steps == 0 && same(&r, &before), "a run in a ROM of no words");
+    expect(ran.number == 1 && ran.steps == 0 && ran.cycles == 0 && same(&r, &before), "a run in a ROM of no words");
     ran = pollwezen_run(program, 5, &r, none, 65536);
-    expect(ran.number == 1 && ran.steps == 0 && same(&r, &before), "a budget too large");
+    expect(ran.number == 1 && ran.steps == 0 && ran.cycles == 0 && same(&r, &before), "a budget too large");
 }
 
 static void runs(void) {
     pollwezen_machine r = pollwezen_reset();
     pollwezen_run_reply ran = pollwezen_run(program, 5, &r, none, 65535);
-    expect(ran.steps == 4 && ran.number == POLLWEZEN_DONE && r.standby == 1, "a run up to HALT");
+    expect(ran.steps == 4 && ran.cycles == 4 && ran.number == POLLWEZEN_DONE && r.standby == 1, "a run up to HALT");
     pollwezen_machine before = r;
     pollwezen_input release = none;
     release.release = 1;
     ran = pollwezen_run(program, 5, &r, release, 65535);
-    expect(ran.steps == 0 && ran.number == 7 && same(&r, &before), "a run refused at its first step");
+    expect(ran.steps == 0 && ran.cycles == 0 && ran.number == 7 && same(&r, &before), "a run refused at its first step");
     r = pollwezen_reset();
     expect(pollwezen_run(program, 5, &r, none, 2).steps == 2 && r.pc == 2, "a run up to its budget");
+}
+
+/* MOVT DBF,@AR; SKT 10H,#0; MOVT, skipped; MOV 77H,#7; MOVT, of a word past the ROM; HALT; MOVT */
+static const uint16_t tables[] = {0x3810, 0xF100, 0x3810, 0xEF77, 0x3810, 0x3BF0, 0x3810};
+
+/* What a run reports, from reset at a PC. */
+static void counts(uint16_t pc, uint32_t budget, uint32_t steps, uint32_t cycles, uint8_t number, const char *what) {
+    pollwezen_machine r = pollwezen_reset();
+    r.pc = pc;
+    pollwezen_run_reply ran = pollwezen_run(tables, 7, &r, none, budget);
+    expect(ran.steps == steps && ran.cycles == cycles && ran.number == number, what);
+}
+
+static void cycles(void) {
+    counts(0, 0, 0, 0, POLLWEZEN_DONE, "no step takes no cycle");
+    counts(0, 1, 1, 2, POLLWEZEN_DONE, "MOVT takes two cycles");
+    counts(0, 2, 2, 3, POLLWEZEN_DONE, "the budget counts steps");
+    counts(1, 2, 2, 2, POLLWEZEN_DONE, "a skipped MOVT takes one cycle");
+    counts(0, 65535, 4, 5, 8, "a refused run reports the cycles of its completed steps");
+    counts(4, 65535, 2, 3, POLLWEZEN_DONE, "HALT takes one cycle");
+    counts(6, 65535, 1, 2, 2, "a MOVT in the last word");
+    static uint16_t all[POLLWEZEN_WORDS];
+    for (unsigned i = 0; i < POLLWEZEN_WORDS; i++) {
+        all[i] = 0x3810;
+    }
+    pollwezen_machine r = pollwezen_reset();
+    pollwezen_run_reply ran = pollwezen_run(all, POLLWEZEN_WORDS, &r, none, 65535);
+    expect(ran.steps == 65535 && ran.cycles == 131070 && ran.number == POLLWEZEN_DONE, "the most cycles of a run");
 }
 
 /* Ports: 6FH is P0E, 70H to 73H are P0A to P0D. LD 0,7xH reads the pin where the direction is 0. */
@@ -129,6 +157,7 @@ int main(void) {
     steps();
     out_of_range();
     runs();
+    cycles();
     ports();
     verdicts();
     codes();

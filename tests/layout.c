@@ -62,7 +62,8 @@ static void fields(unsigned i) {
     }
     FIELD(inputs, pollwezen_input, release, 11);
     FIELD(runs, pollwezen_run_reply, steps, 1);
-    FIELD(runs, pollwezen_run_reply, number, 2);
+    FIELD(runs, pollwezen_run_reply, cycles, 2);
+    FIELD(runs, pollwezen_run_reply, number, 3);
     FIELD(verdicts, pollwezen_verdict_reply, number, 1);
     FIELD(verdicts, pollwezen_verdict_reply, word, 2);
     FIELD(verdicts, pollwezen_verdict_reply, rule, 3);

@@ -14,7 +14,7 @@ static void machines(void) {
     pollwezen_machine r = pollwezen_reset(), before = r;
     expect(pollwezen_step(NULL, 0, &r, none) == 1 && same(&r, &before), "a step with a NULL ROM");
     pollwezen_run_reply ran = pollwezen_run(NULL, 0, &r, none, 3);
-    expect(ran.number == 1 && ran.steps == 0 && same(&r, &before), "a run with a NULL ROM");
+    expect(ran.number == 1 && ran.steps == 0 && ran.cycles == 0 && same(&r, &before), "a run with a NULL ROM");
     expect(pollwezen_verify(NULL, 0, NULL, 0).number == 1, "the check with NULL for both");
     expect(pollwezen_verify(NULL, 0, sheet, 1).number == 1, "the check with a NULL ROM");
     expect(pollwezen_verify(rom, 1, NULL, 0).number == 9, "the check with a NULL sheet");
