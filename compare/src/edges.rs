@@ -127,21 +127,22 @@ impl Call {
         pair::DONE
     }
 
-    /// What a run reports, and the machine after it.
+    /// What a run reports, and the machine after it. NOP takes one cycle.
     fn run(&self, in_range: bool, budget: u32) -> (RunReply, Machine) {
         let mut machine = self.machine.clone();
+        let report = |steps, number| RunReply { steps, cycles: steps, number };
         if !in_range {
-            return (RunReply { steps: 0, number: 1 }, machine);
+            return (report(0, 1), machine);
         }
         let mut steps = 0;
         while steps < budget {
             match self.step(&mut machine) {
                 pair::DONE => steps += 1,
                 pair::STANDBY => break,
-                number => return (RunReply { steps, number }, machine),
+                number => return (report(steps, number), machine),
             }
         }
-        (RunReply { steps, number: 0 }, machine)
+        (report(steps, 0), machine)
     }
 
     /// Both answered and left the same: that must be what is told.

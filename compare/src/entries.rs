@@ -7,6 +7,7 @@ use std::fmt::Debug;
 use reference::station::{read, read_into, write, write_into};
 use reference::{Input, Station};
 
+use crate::counts;
 use crate::files::first_line;
 use crate::host::{self, OutputReply, ReadReply};
 use crate::pair::{place, Finding};
@@ -148,7 +149,7 @@ fn prints(random: &mut Random, file: &[u8], tally: &mut Tally) -> Result<(), Fin
     }
     tally.compared += 1;
     tally.see(if output.number == 0 { "texts" } else { "texts without room" });
-    Ok(())
+    counts::end(file, &text, tally)
 }
 
 /// Two answers that differ.

@@ -26,6 +26,7 @@ pub const ALL: &[&str] = &[
     "MOVT with four levels open",
     "MOVT with five levels open",
     "MOVT of the ROM's last word",
+    "MOVT skipped",
     "POP AR with one level open",
     "POP AR with no level open",
     "RET with one level open",
@@ -52,6 +53,9 @@ pub fn count(rom: &[u16], before: &Machine, number: u8, tally: &mut Tally) {
     if before.skip == 1 {
         if last {
             tally.see("skipped words at 1,023");
+        }
+        if word == words::MOVT {
+            tally.see("MOVT skipped");
         }
         return;
     }

@@ -9,6 +9,7 @@ use std::sync::OnceLock;
 use reference::station::{read, write};
 use reference::transcript;
 
+use crate::counts;
 use crate::pair::Finding;
 use crate::random::Random;
 use crate::stations::{damage, faults, good_file};
@@ -45,7 +46,7 @@ fn compare(file: &[u8], tally: &mut Tally) -> Result<(), Finding> {
     if printed == expected.as_bytes() {
         tally.compared += 1;
         tally.see(kind(&expected));
-        return Ok(());
+        return counts::end(file, &expected, tally);
     }
     let printed = String::from_utf8_lossy(&printed).into_owned();
     Err(Finding(format!(

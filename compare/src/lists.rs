@@ -4,6 +4,7 @@
 use reference::verify::NEVER;
 use reference::{Input, Machine};
 
+use crate::counts;
 use crate::host::RunReply;
 use crate::pair::{self, Finding};
 use crate::random::Random;
@@ -92,20 +93,22 @@ impl Walk<'_> {
     }
 
     /// The steps of a run one by one, its moments, and then the run itself: its
-    /// count and its end.
+    /// counts and its end.
     fn run(&mut self, input: &Input, budget: u32, tally: &mut Tally) -> Result<(), Finding> {
         let before = self.machine.clone();
         let in_range = input.in_range() && budget <= 65_535;
-        let mut steps = 0;
-        if in_range {
-            while steps < budget && self.step(input, tally)? == pair::DONE {
-                steps += 1;
-                if self.machine.standby == 1 {
-                    break;
-                }
+        let mut expected = RunReply { steps: 0, cycles: 0, number: u8::from(!in_range) };
+        while in_range && expected.steps < budget {
+            let cycles = counts::of_step(&self.case.rom, &self.machine);
+            if self.step(input, tally)? != pair::DONE {
+                break;
+            }
+            expected.steps += 1;
+            expected.cycles += cycles;
+            if self.machine.standby == 1 {
+                break;
             }
         }
-        let expected = RunReply { steps, number: u8::from(!in_range) };
         let mut machine = before.clone();
         let report = pair::run(&self.case.rom, &mut machine, input, budget)?;
         tally.answer(report.number);
@@ -130,7 +133,7 @@ impl Walk<'_> {
             tally.see("wraps at 1,023");
         }
         if skipped {
-            tally.see("skipped words");
+            tally.see(if word == words::MOVT { "skipped MOVTs" } else { "other skipped words" });
             return;
         }
         if words::is_call(word) {

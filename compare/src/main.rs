@@ -13,6 +13,8 @@
 #![deny(unsafe_code)]
 
 mod codes;
+mod counts;
+mod cycles;
 mod edges;
 mod entries;
 mod events;

@@ -4,7 +4,7 @@
 use std::fmt::{UpperHex, Write};
 
 use reference::machine::ROM_WORDS;
-use reference::{Answer, Input, Machine, Verdict};
+use reference::{Answer, Input, Machine, Report, Verdict};
 
 use crate::host::{self, RunReply, VerdictReply};
 
@@ -51,24 +51,39 @@ pub fn run(
     budget: u32,
 ) -> Result<RunReply, Finding> {
     let before = machine.clone();
+    both_run(rom, machine, input, budget).map_err(|text| {
+        let step = odd_step(rom, before, input, budget);
+        Finding(format!("{step}{text}{}", show_rom(rom)))
+    })
+}
+
+/// A run in both; what differs, as text.
+fn both_run(
+    rom: &[u16],
+    machine: &mut Machine,
+    input: &Input,
+    budget: u32,
+) -> Result<RunReply, String> {
+    let before = machine.clone();
     let mut second = before.clone();
     let report = host::run(rom, machine, input, budget);
-    let answer = reference::run(rom, &mut second, input, budget);
-    let answer = RunReply { steps: answer.steps, number: answer.refusal };
+    let Report { count, refusal } = reference::run(rom, &mut second, input, budget);
+    let answer = RunReply { steps: count.steps, cycles: count.cycles, number: refusal };
     if report == answer && *machine == second {
         return Ok(report);
     }
     let given = case(&format!("run of {budget}"), rom, &before, input);
-    let left = outcome(&format!("{report:?}"), &format!("{answer:?}"), machine, &second);
-    let step = odd_step(rom, before, input, budget);
-    Err(Finding(format!("{step}{given}{}{left}", show_rom(rom))))
+    Err(given + &outcome(&format!("{report:?}"), &format!("{answer:?}"), machine, &second))
 }
 
-/// The step of a run in which the two disagree, whole.
+/// The step of a run in which the two disagree, whole; its cycles are those of
+/// a run of one.
 fn odd_step(rom: &[u16], mut machine: Machine, input: &Input, budget: u32) -> String {
     for steps in 0..budget {
-        match step(rom, &mut machine, input) {
-            Err(Finding(text)) => return format!("in a run, after {steps} steps, {text}"),
+        let alone = both_run(rom, &mut machine.clone(), input, 1);
+        let stepped = step(rom, &mut machine, input).map_err(|Finding(text)| text);
+        match stepped.and_then(|number| alone.map(|_| number)) {
+            Err(text) => return format!("in a run, after {steps} steps, {text}"),
             Ok(DONE) if machine.standby == 0 => {}
             Ok(_) => break,
         }

@@ -3,7 +3,7 @@
 use crate::pair::Finding;
 use crate::random::Random;
 use crate::tally::Tally;
-use crate::{codes, edges, entries, events, files, lists, places, ranges, steps, verdicts};
+use crate::{codes, cycles, edges, entries, events, files, lists, places, ranges, steps, verdicts};
 
 pub struct Part {
     pub name: &'static str,
@@ -66,6 +66,14 @@ pub const PARTS: &[Part] = &[
         case: steps::random_run,
     },
     Part {
+        name: "cycles",
+        cases: 100_000,
+        few: 6_000,
+        numbers: &[0, 2, 3, 4, 5, 6, 7, 8],
+        things: cycles::ALL,
+        case: cycles::run,
+    },
+    Part {
         name: "edges",
         cases: places::COUNT,
         few: places::COUNT,
@@ -121,7 +129,8 @@ pub const PARTS: &[Part] = &[
         numbers: &[0, 1, 255],
         things: &[
             "wraps at 1,023",
-            "skipped words",
+            "skipped MOVTs",
+            "other skipped words",
             "CALLs with the clause",
             "CALLs without it",
             "RETs at a level with RETSK",
@@ -151,6 +160,10 @@ pub const PARTS: &[Part] = &[
             "files and stations with two faults",
             "texts",
             "texts without room",
+            "texts with a MOVT run",
+            "texts with a MOVT skipped",
+            "texts refused after a MOVT",
+            "texts with a MOVT run and in standby",
         ],
         case: entries::entry,
     },
@@ -168,6 +181,7 @@ pub const PARTS: &[Part] = &[
             "files without a sheet",
             "files whose sheet passes",
             "files whose sheet fails",
+            "texts with a MOVT run",
         ],
         case: files::file,
     },

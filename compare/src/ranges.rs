@@ -7,6 +7,7 @@ use std::sync::OnceLock;
 use reference::machine::WRITABLE;
 use reference::{Input, Machine};
 
+use crate::host::RunReply;
 use crate::pair::{self, Finding};
 use crate::random::Random;
 use crate::records;
@@ -34,6 +35,9 @@ enum Kind {
     LongRom,
     Budget,
 }
+
+/// What a run out of range reports.
+const REFUSED: RunReply = RunReply { steps: 0, cycles: 0, number: 1 };
 
 /// What a call is given.
 struct Call {
@@ -67,7 +71,7 @@ impl Call {
         let mut left = self.machine.clone();
         let report = pair::run(&self.rom, &mut left, &self.input, self.budget)?;
         tally.answer(report.number);
-        self.stays(kind, report.number == 1 && report.steps == 0, &report, &left)?;
+        self.stays(kind, report == REFUSED, &report, &left)?;
         if matches!(kind, Kind::Budget) {
             return Ok(());
         }

@@ -151,7 +151,7 @@ fn inside(random: &mut Random, words: usize) -> u16 {
     }
 }
 
-fn set_ar(machine: &mut Machine, ar: u16) {
+pub fn set_ar(machine: &mut Machine, ar: u16) {
     set(machine, Machine::AR2, (ar >> 8) as u8);
     set(machine, Machine::AR1, (ar >> 4 & 0xF) as u8);
     set(machine, Machine::AR0, (ar & 0xF) as u8);

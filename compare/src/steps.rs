@@ -5,6 +5,7 @@ use std::sync::OnceLock;
 
 use reference::Machine;
 
+use crate::counts;
 use crate::events;
 use crate::pair::{self, Finding};
 use crate::random::Random;
@@ -24,9 +25,12 @@ pub fn every_word(random: &mut Random, index: u64, tally: &mut Tally) -> Result<
     for state in 0..CORNERS {
         let words = length(random);
         let mut machine = records::boundary(random, words, state);
-        // Most states are for the word itself, and not for skipping it.
-        if state >= 16 {
-            machine.skip = 0;
+        // Most states are for the word itself, one for skipping it, and a few
+        // for either.
+        match state {
+            0 => (machine.skip, machine.standby) = (1, 0),
+            1..16 => {}
+            _ => machine.skip = 0,
         }
         one_step(random, word, words, machine, tally)?;
     }
@@ -55,11 +59,13 @@ fn one_step(
 ) -> Result<(), Finding> {
     let mut rom = *table();
     rom[usize::from(before.pc)] = word;
+    let rom = &rom[..words];
+    let input = records::input(random);
     let mut machine = before.clone();
-    let number = pair::step(&rom[..words], &mut machine, &records::input(random))?;
+    let number = pair::step(rom, &mut machine, &input)?;
     tally.answer(number);
-    events::count(&rom[..words], &before, number, tally);
-    Ok(())
+    events::count(rom, &before, number, tally);
+    counts::run_of_one(rom, &before, &input, number, &machine)
 }
 
 /// A run on a short ROM of random words, and a step after it.

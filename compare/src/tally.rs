@@ -26,6 +26,11 @@ impl Tally {
         *self.seen.entry(what).or_default() += 1;
     }
 
+    /// Those of the things that are so.
+    pub fn see_those(&mut self, things: &[(bool, &'static str)]) {
+        things.iter().filter(|(is_so, _)| *is_so).for_each(|(_, what)| self.see(what));
+    }
+
     /// The first thing of those named that was not seen.
     pub fn lacks(&self, numbers: &[u8], names: &[&'static str]) -> Option<String> {
         let number = numbers.iter().find(|&&number| self.numbers[usize::from(number)] == 0);

@@ -99,7 +99,7 @@ pub fn layout() -> Result<(), String> {
     look!(search, inputs: LentInput, [pins] |n, _| 1 + n);
     look!(search, inputs: LentInput, [directions] |n, _| 6 + n);
     look!(search, inputs: LentInput, release 11);
-    look!(search, runs: RunReply, steps 1, number 2);
+    look!(search, runs: RunReply, steps 1, cycles 2, number 3);
     look!(search, verdicts: VerdictReply, number 1, word 2, rule 3);
     look!(search, reads: ReadReply, number 1, words 2, entries 3, records 4);
     look!(search, outputs: OutputReply, number 1, length 2);

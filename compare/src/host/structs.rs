@@ -21,11 +21,13 @@ pub struct LentInput {
     pub release: u8,
 }
 
-/// `pollwezen_run_reply`: the steps that a run completed, its refusal or 0.
+/// `pollwezen_run_reply`: the steps that a run completed, the cycles that these
+/// took, its refusal or 0.
 #[repr(C)]
 #[derive(Clone, Copy, Debug, PartialEq, Eq)]
 pub struct RunReply {
     pub steps: u32,
+    pub cycles: u32,
     pub number: u8,
 }
 
