@@ -1,9 +1,9 @@
 //! The two emulators behind the same calls. Numbers are those of
 //! include/pollwezen.h: 0 is done, 255 standing, and any other a refusal.
 
-use pollwezen_host as library;
+use pollwezen_host::{self as library, OutputReply, RunReply};
 use reference::station::{self, read_into, write_into};
-use reference::{Answer, Input, Machine, Verdict};
+use reference::{Answer, Input, Machine, Report, Verdict};
 
 use crate::words::Row;
 
@@ -22,8 +22,7 @@ pub trait Emulator {
     fn name(&self) -> &'static str;
     fn reset(&self) -> Machine;
     fn step(&self, rom: &[u16], machine: &mut Machine, input: &Input) -> u8;
-    /// The steps completed, and the refusal or 0.
-    fn run(&self, rom: &[u16], machine: &mut Machine, input: &Input, budget: u32) -> (u32, u8);
+    fn run(&self, rom: &[u16], machine: &mut Machine, input: &Input, budget: u32) -> RunReply;
     fn check(&self, rom: &[u16], sheet: &[u8]) -> Verdict;
     /// What else a word is decoded to, where it is not this.
     fn decodes_else(&self, word: u16, row: Option<Row>) -> Option<String>;
@@ -36,6 +35,8 @@ pub trait Emulator {
     fn read(&self, file: &[u8], held: &mut Station, lent: [usize; 3]) -> Result<[usize; 3], u8>;
     /// The bytes of the file, or the refusal.
     fn write(&self, station: &Station, out: &mut [u8]) -> Result<usize, u8>;
+    /// The bytes of the text, or the refusal.
+    fn print(&self, file: &[u8], out: &mut [u8]) -> Result<usize, u8>;
 }
 
 /// The proved emulator: the shipped library. A refusal comes with zeros; where
@@ -46,6 +47,15 @@ pub struct Library;
 fn listed(word: u16) -> (u8, Row) {
     let l = library::decode(word);
     (l.number, Row { row: l.row, first: l.first, second: l.second, addr: l.addr })
+}
+
+/// The bytes that the library wrote, or its refusal.
+fn length(output: OutputReply) -> Result<usize, u8> {
+    match (output.number, output.length) {
+        (0, length) => Ok(length),
+        (number, 0) => Err(number),
+        _ => Err(0),
+    }
 }
 
 impl Emulator for Library {
@@ -61,9 +71,8 @@ impl Emulator for Library {
         library::step(rom, machine, input)
     }
 
-    fn run(&self, rom: &[u16], machine: &mut Machine, input: &Input, budget: u32) -> (u32, u8) {
-        let report = library::run(rom, machine, input, budget);
-        (report.steps, report.number)
+    fn run(&self, rom: &[u16], machine: &mut Machine, input: &Input, budget: u32) -> RunReply {
+        library::run(rom, machine, input, budget)
     }
 
     fn check(&self, rom: &[u16], sheet: &[u8]) -> Verdict {
@@ -102,12 +111,11 @@ impl Emulator for Library {
     }
 
     fn write(&self, station: &Station, out: &mut [u8]) -> Result<usize, u8> {
-        let output = library::write(&station.rom, &station.sheet, &station.inputs, out);
-        match (output.number, output.length) {
-            (0, length) => Ok(length),
-            (number, 0) => Err(number),
-            _ => Err(0),
-        }
+        length(library::write(&station.rom, &station.sheet, &station.inputs, out))
+    }
+
+    fn print(&self, file: &[u8], out: &mut [u8]) -> Result<usize, u8> {
+        length(library::transcript(file, out))
     }
 }
 
@@ -140,9 +148,9 @@ impl Emulator for Second {
         }
     }
 
-    fn run(&self, rom: &[u16], machine: &mut Machine, input: &Input, budget: u32) -> (u32, u8) {
-        let report = reference::run(rom, machine, input, budget);
-        (report.steps, report.refusal)
+    fn run(&self, rom: &[u16], machine: &mut Machine, input: &Input, budget: u32) -> RunReply {
+        let Report { count, refusal } = reference::run(rom, machine, input, budget);
+        RunReply { steps: count.steps, cycles: count.cycles, number: refusal }
     }
 
     fn check(&self, rom: &[u16], sheet: &[u8]) -> Verdict {
@@ -185,5 +193,12 @@ impl Emulator for Second {
             return station::write(&station).and(Err(22));
         }
         write_into(&station, out)
+    }
+
+    /// It makes its text itself.
+    fn print(&self, file: &[u8], out: &mut [u8]) -> Result<usize, u8> {
+        let text = reference::transcript(file);
+        out.get_mut(..text.len()).ok_or(25)?.copy_from_slice(text.as_bytes());
+        Ok(text.len())
     }
 }

@@ -1,5 +1,5 @@
-//! Station files, read and written, with what the lent buffers then hold. The
-//! lines are told in data/files.cases.
+//! Station files, read, written and printed, with what the lent buffers then
+//! hold. The lines are told in data/files.cases and data/texts.cases.
 
 use crate::emulators::{Emulator, Station, RECORD};
 use crate::scan::{byte, hex, sweep, Head};
@@ -10,6 +10,9 @@ use crate::Bench;
 const MARK: u8 = 0xA5;
 const WORD_MARK: u16 = 0xA5A5;
 const BEHIND: usize = 16;
+
+/// More bytes than any text has.
+const TEXT: usize = 100_000;
 
 #[derive(Default)]
 pub struct Files {
@@ -75,6 +78,28 @@ fn read(file: &[u8], room: [usize; 3], emulator: &dyn Emulator) -> String {
         && write(&held, size + BEHIND, emulator) == format!("WRITTEN {size}")
         && write(&held, size - 1, emulator) == "REFUSED 25";
     told(format!("STATION {words} {entries} {records}"), behind && right)
+}
+
+/// The text of a file as one line: printed into more room than any text needs
+/// and into just enough, and refused with a byte less.
+fn text(file: &[u8], emulator: &dyn Emulator) -> String {
+    let mut out = vec![MARK; TEXT + BEHIND];
+    let size = match emulator.print(file, &mut out[..TEXT]) {
+        Ok(size) => size,
+        Err(number) => return told(format!("REFUSED {number}"), kept(&out, 0, MARK)),
+    };
+    let mut tight = vec![MARK; size + BEHIND];
+    let mut short = tight.clone();
+    let right = kept(&out, size, MARK)
+        && emulator.print(file, &mut short[..size - 1]) == Err(25)
+        && kept(&short, 0, MARK)
+        && emulator.print(file, &mut tight[..size]) == Ok(size)
+        && tight == out[..size + BEHIND];
+    let text = String::from_utf8_lossy(&out[..size]).into_owned();
+    match text.strip_suffix('\n') {
+        Some(lines) => told(lines.replace('\n', ", "), right),
+        None => text + " without an end",
+    }
 }
 
 impl Files {
@@ -146,6 +171,7 @@ impl Bench for Files {
         let cut = |size: usize| Some((size.to_string(), self.outcome(size, emulator)?));
         let told = match line.split(' ').collect::<Vec<_>>()[..] {
             ["try"] => self.outcome(self.bytes.len(), emulator),
+            ["text"] => Some(text(&self.bytes, emulator)),
             ["cuts", a, b] => sweep((hex(a)?..=hex(b)?).map(cut)),
             ["each", at, a, b] => self.each(hex(at)?, [byte(a)?, byte(b)?], emulator),
             _ => return Err("no try".to_string()),

@@ -51,14 +51,20 @@ fn programs() -> Box<dyn Bench> {
     Box::new(programs::Programs::new())
 }
 
-const KINDS: [Kind; 7] = [
+fn files() -> Box<dyn Bench> {
+    Box::<files::Files>::default()
+}
+
+const KINDS: [Kind; 9] = [
     Kind { name: "printed", bench: || Box::new(words::Words) },
     Kind { name: "words", bench: || Box::new(words::Words) },
     Kind { name: "data", bench: programs },
     Kind { name: "programs", bench: programs },
+    Kind { name: "cycles", bench: programs },
     Kind { name: "host", bench: programs },
     Kind { name: "checks", bench: || Box::<checks::Checks>::default() },
-    Kind { name: "files", bench: || Box::<files::Files>::default() },
+    Kind { name: "files", bench: files },
+    Kind { name: "texts", bench: files },
 ];
 
 impl Kind {

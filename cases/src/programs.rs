@@ -1,6 +1,8 @@
 //! Programs: steps and runs on one lent record. The lines are told in
 //! data/programs.cases.
 
+use pollwezen_host::RunReply;
+
 use crate::emulators::Emulator;
 use crate::scan::{hex, is_word, word, Head};
 use crate::setup::Setup;
@@ -36,7 +38,7 @@ impl Programs {
     fn judged(&self, before: &Setup, given: &str, answer: &str) -> Result<String, String> {
         let is_answer = |item: &&str| {
             let words: Vec<&str> = item.split(' ').collect();
-            matches!(words[..], ["done" | "standing"] | ["refusal", _] | [_, "steps"])
+            matches!(words[..], ["done" | "standing"] | ["refusal", _] | [_, "steps" | "cycles"])
         };
         let (answers, items): (Vec<_>, Vec<_>) = answer.split(", ").partition(is_answer);
         let rest = items.contains(&"rest unchanged");
@@ -63,10 +65,10 @@ impl Programs {
 
     fn run(&mut self, budget: u32, emulator: &dyn Emulator) -> String {
         let Setup { machine, input } = &mut self.setup;
-        match emulator.run(&self.rom[..self.words], machine, input, budget) {
-            (steps, 0) => format!("{steps} steps"),
-            (steps, number) => format!("{steps} steps, refusal {number}"),
-        }
+        let RunReply { steps, cycles, number } =
+            emulator.run(&self.rom[..self.words], machine, input, budget);
+        let refusal = if number == 0 { String::new() } else { format!(", refusal {number}") };
+        format!("{steps} steps, {cycles} cycles{refusal}")
     }
 
     /// A step by itself. The bench is as before when the next line comes.

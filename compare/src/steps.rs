@@ -25,11 +25,11 @@ pub fn every_word(random: &mut Random, index: u64, tally: &mut Tally) -> Result<
     for state in 0..CORNERS {
         let words = length(random);
         let mut machine = records::boundary(random, words, state);
-        // Most states are for the word itself, one for skipping it, and a few
+        // Most states are for the word itself, two for skipping it, and a few
         // for either.
         match state {
-            0 => (machine.skip, machine.standby) = (1, 0),
-            1..16 => {}
+            0 | 1 => (machine.skip, machine.standby) = (1, 0),
+            2..16 => {}
             _ => machine.skip = 0,
         }
         one_step(random, word, words, machine, tally)?;
