@@ -67,7 +67,7 @@ fn run(name: &str, rom: &[u16], pairs: usize, budget: u32) {
         call: |machine: &mut Machine| {
             let (rom, input, budget) = (black_box(rom), black_box(&INPUT), black_box(budget));
             let report = reference::run(rom, machine, input, budget);
-            (report.steps, report.refusal)
+            (report.count.steps, report.count.cycles, report.refusal)
         },
     };
     let proved = Side {
@@ -76,7 +76,7 @@ fn run(name: &str, rom: &[u16], pairs: usize, budget: u32) {
         call: |machine: &mut Machine| {
             let (rom, input, budget) = (black_box(rom), black_box(&INPUT), black_box(budget));
             let report = proved::run(rom, machine, input, budget);
-            (report.steps, report.number)
+            (report.steps, report.cycles, report.number)
         },
     };
     row.print(native, proved, |a, b| a == b);
@@ -92,7 +92,10 @@ fn runs_in_turn(rom: &[u16], pairs: usize, boxes: usize) {
         refill: |machines| machines.fill(Machine::reset()),
         call: |machines: &mut Vec<Machine>| {
             let (rom, input) = (black_box(rom), black_box(&INPUT));
-            machines.iter_mut().map(|m| reference::run(rom, m, input, STEPS).steps).sum::<u32>()
+            machines
+                .iter_mut()
+                .map(|m| reference::run(rom, m, input, STEPS).count.cycles)
+                .sum::<u32>()
         },
     };
     let proved = Side {
@@ -100,7 +103,7 @@ fn runs_in_turn(rom: &[u16], pairs: usize, boxes: usize) {
         refill: |machines| machines.fill(proved::reset()),
         call: |machines: &mut Vec<Machine>| {
             let (rom, input) = (black_box(rom), black_box(&INPUT));
-            machines.iter_mut().map(|m| proved::run(rom, m, input, STEPS).steps).sum::<u32>()
+            machines.iter_mut().map(|m| proved::run(rom, m, input, STEPS).cycles).sum::<u32>()
         },
     };
     row.print(native, proved, |a, b| a == b);

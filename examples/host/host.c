@@ -34,8 +34,8 @@ int main(void) {
         if (ran.number != POLLWEZEN_DONE) {
             return stop("refused", ran.number);
         }
-        printf("lamps %X%X%X%X%X after %u steps\n", board.cells[0x70], board.cells[0x71], board.cells[0x72],
-               board.cells[0x73], board.cells[0x6F], ran.steps);
+        printf("lamps %X%X%X%X%X after %u steps, %u cycles\n", board.cells[0x70], board.cells[0x71], board.cells[0x72],
+               board.cells[0x73], board.cells[0x6F], ran.steps, ran.cycles);
     }
     return 0;
 }

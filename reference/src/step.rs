@@ -36,6 +36,7 @@ pub fn step(rom: &[u16], machine: &mut Machine, input: &Input) -> Answer {
 }
 
 /// One step, added to a count.
+#[inline(always)]
 pub(crate) fn counted_step(
     rom: &[u16],
     machine: &mut Machine,
