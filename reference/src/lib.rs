@@ -7,7 +7,7 @@
 #![forbid(unsafe_code)]
 
 mod alu;
-pub mod count;
+mod count;
 mod execute;
 pub mod fault;
 pub mod isa;
