@@ -1,2 +1,3 @@
 pub mod Keeps
 pub mod Opcodes
+pub mod OneWord

@@ -13,6 +13,7 @@ use machine::Refusal;
 use stack::address_on;
 use stack::clear;
 pub use words::of_word;
+pub use words::reads_table;
 
 // The instructions that go by AR: BR @AR, CALL @AR, PUSH AR and POP AR.
 pub enum ArOp {

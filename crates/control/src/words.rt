@@ -4,7 +4,7 @@
 ghost use mathlib.Core.Path.{_≡_};
 ghost use Prim.Native.Nat.{_/_, _%_};
 ghost use Rattle.isa.specs.Decode.{groupOf};
-ghost use Rattle.control.specs.Flow.{decodedFlow, wordFlow};
+ghost use Rattle.control.specs.Flow.{decodedFlow, readsTable, wordFlow};
 use crate::ArOp;
 use crate::Flow;
 
@@ -79,4 +79,14 @@ pub fn of_word(word: u16) -> Flow
         28 => Flow::Calls(word % 2048),
         _ => Flow::Refused(NO_INSTRUCTION),
     }
+}
+
+// MOVT's word.
+const MOVT: u16 = 0b00111_000_0001_0000;
+
+// Whether a word reads the table. MOVT alone does, and it has one word, so nothing is decoded.
+pub fn reads_table(word: u16) -> bool
+    ensures { λ r. ⌜ r ≡ readsTable (wordFlow word) ⌝ }
+{
+    word == MOVT
 }

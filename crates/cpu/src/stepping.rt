@@ -8,14 +8,13 @@ ghost use lib.ListN.{getD};
 ghost use Rattle.memory.specs.Chip.{upd17132};
 ghost use Rattle.machine.specs.Parts.{isMarked, machineOf};
 ghost use Rattle.control.specs.Control.{withStandby};
-ghost use Rattle.control.specs.Flow.{readsTable};
+ghost use Rattle.control.specs.Flow.{readsTable, wordFlow};
 ghost use Rattle.cpu.specs.Cost.{cyclesOf};
 ghost use Rattle.cpu.specs.Joined.{executedOf, fetchedOf, inputAt, wholeOf};
 ghost use Rattle.control.specs.Transfers.{withStack};
 ghost use Rattle.cpu.specs.Step.{advanceOf};
 use crate::Fetched;
 use crate::execution::execute;
-use control::Flow;
 use control::Regs;
 use control::Transfer;
 use isa::Decoded;
@@ -35,21 +34,14 @@ fn fetch(rom: &[u16], pc: u16) -> Fetched
     Fetched::Word(rom[at])
 }
 
-// MOVT takes two cycles, every other instruction one.
-fn flow_cycles(flow: Flow) -> u32
-    ensures { λ r. ⌜ r ≡ cond (readsTable flow) 2 1 ⌝ }
+// MOVT takes two cycles, every other word one.
+fn word_cycles(word: u16) -> u32
+    ensures { λ r. ⌜ r ≡ cond (readsTable (wordFlow word)) 2 1 ⌝ }
 {
-    match flow {
-        Flow::Onward => 1,
-        Flow::Skips => 1,
-        Flow::Branches(_) => 1,
-        Flow::Calls(_) => 1,
-        Flow::Returns(_) => 1,
-        Flow::ReadsTable => 2,
-        Flow::StandsBy => 1,
-        Flow::ByAr(_) => 1,
-        Flow::Refused(_) => 1,
+    if control::reads_table(word) {
+        return 2;
     }
+    1
 }
 
 // The cycles of the step at PC, where it is completed.
@@ -60,7 +52,7 @@ pub fn cycles_at(rom: &[u16], regs: Regs) -> u32
         return 1;
     };
     if regs.skip == 0 {
-        return flow_cycles(control::of_word(word));
+        return word_cycles(word);
     }
     1
 }

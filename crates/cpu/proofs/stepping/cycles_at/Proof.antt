@@ -9,7 +9,6 @@ use Rattle.machine.specs.Parts.{isMarked}
 use Rattle.machine.proofs.Marks.{is-marked, not-marked}
 use Rattle.isa.specs.Decode.{decodeOf, entryOf, overview}
 use Rattle.control.specs.Flow.{readsTable, wordFlow}
-use Rattle.control.specs.declared.Flow.{Flow}
 use Rattle.cpu.specs.Cost.{cyclesOf}
 use Rattle.cpu.proofs.Phases.{past-rom, word-at}
 use Rattle.cpu.proofs.stepping.cycles_at.Statement.{statement}
@@ -35,11 +34,10 @@ returns c =
 
 returns-2 : tie.Need-returns-2
 returns-2 c =
-    let s = c .before .before .before .before .before .before .before .before .before .args in
-    let w = word-at (s .rom .now) (s .regs .pc) _ (sym (c .before .before .before .before .before .before .before .fetch .ensures) ∙ c .before .before .before .before .before .word .given .1) in
-    c .flow-cycles .ensures
-    ∙ ap (λ (f : Flow). cond (readsTable f) 2 1) (c .before .of-word .ensures)
-    ∙ run-so _ (s .regs .skip) (not-marked _ (c .before .before .if1 .taken))
+    let s = c .before .before .before .before .before .before .before .before .args in
+    let w = word-at (s .rom .now) (s .regs .pc) _ (sym (c .before .before .before .before .before .before .fetch .ensures) ∙ c .before .before .before .before .word .given .1) in
+    c .word-cycles .ensures
+    ∙ run-so _ (s .regs .skip) (not-marked _ (c .before .if1 .taken))
     ∙ ap (λ (x : ℕ). cyclesOf x (s .regs .skip)) (sym (w .1))
 
 returns-3 : tie.Need-returns-3
@@ -55,7 +53,6 @@ cycles-at-spec =
     (λ c. search needs)
     (λ c. search needs)
     returns
-    (λ c κs. search needs)
     (λ c κs. search needs)
     returns-2
     returns-3)
