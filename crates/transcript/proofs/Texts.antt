@@ -16,7 +16,7 @@ use Rattle.station_file.specs.Station.{Station, recordBytes}
 use Rattle.transcript.specs.declared.Progress as code
 use Rattle.transcript.specs.Printing.{Wrote, RecordedTo}
 use Rattle.transcript.specs.Text.{newline, sheetText, noneText}
-use Rattle.transcript.specs.Transcript.{verdictText, sheetLine, endLine, endOf, stationText, transcriptOf}
+use Rattle.transcript.specs.Transcript.{Progress, verdictText, sheetLine, endLine, stationText, transcriptOf}
 use Rattle.transcript.specs.Print.{Print, printed, refused, printOf}
 use Rattle.transcript.proofs.Puts.{joined, reworded, fitting}
 
@@ -33,11 +33,11 @@ module _ (s : Station) {x y z : List ℕ} {r q : ℕ} where
 module _ (s : Station) {w x y z : List ℕ} {from r : ℕ} (p : code.Progress) where
   pub whole : length (s .inputs) ≤ 45045 → Wrote 21 0 (sheetLine s) w x from
       → RecordedTo (s .rom) (s .inputs) (length (s .inputs) / recordBytes) from x y p
-      → Wrote 22 (p .at) (endOf (p .count) (p .refusal)) y z r
+      → Wrote 22 (p .at) (endLine (p .count) (p .refusal)) y z r
       → Wrote 100000 0 (stationText s) w z r
   unfolding stationText
   whole h f g e =
-      joined 100000 (omega arith) (joined 99978 (omega arith) f (g .wrote)) (reworded (ap endLine (g .same)) e)
+      joined 100000 (omega arith) (joined 99978 (omega arith) f (g .wrote)) (reworded (ap (λ (q : Progress). endLine (q .count) (q .refusal)) (g .same)) e)
 
 module _ (file out : List ℕ) (n : ℕ) where
   pub too-short : n ≡ 0 + length (transcriptOf file) → length out < n → record { reply = refused 25; out = out } ≡ printOf file out

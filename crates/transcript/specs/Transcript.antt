@@ -91,16 +91,13 @@ abbrev pub begun : Progress
 begun = record { machine = resetMachine; count = none; refusal = 0 }
 
 -- "Last END, completed steps, refusal or 0"; document 02, E3, "END gets the cycles between steps and refusal"
-abbrev pub endOf : Count → ℕ → List ℕ
-endOf c refusal = endText ++ decimal (c .steps) ++ (space ∷ decimal (c .cycles)) ++ (space ∷ decimal refusal) ++ newline
-
-abbrev pub endLine : Progress → List ℕ
-endLine p = endOf (p .count) (p .refusal)
+abbrev pub endLine : Count → ℕ → List ℕ
+endLine c refusal = endText ++ decimal (c .steps) ++ (space ∷ decimal (c .cycles)) ++ (space ∷ decimal refusal) ++ newline
 
 unfoldable pub stationText : Station → List ℕ
 stationText s =
     let all = recordsOf (s .rom) 1 (inputsOf (length (s .inputs) / recordBytes) (s .inputs)) begun in
-    sheetLine s ++ all .text ++ endLine (all .progress)
+    sheetLine s ++ all .text ++ endLine (all .progress .count) (all .progress .refusal)
 
 -- "Bad file: the one line FILE and the refusal"
 abbrev pub readText : reading.Reading Station → List ℕ

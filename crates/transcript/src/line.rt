@@ -5,7 +5,7 @@ ghost use Prim.Native.Nat.{_≤_};
 ghost use Rattle.verifier.specs.Verdict.{fail};
 ghost use Rattle.transcript.specs.Printing.{Wrote, fieldsOf};
 ghost use Rattle.transcript.specs.Text.{newline, fileText, decimal};
-ghost use Rattle.transcript.specs.Transcript.{endOf, verdictText};
+ghost use Rattle.transcript.specs.Transcript.{endLine, verdictText};
 use crate::put::put;
 use crate::put::put_decimal;
 use cpu::Count;
@@ -79,7 +79,7 @@ pub fn put_end(out: &mut [u8], at: usize, count: Count, refusal: u16) -> usize
     requires { ⌜ at ≤ 800000 ⌝ }
     requires { ⌜ count .steps ≤ 65535 ⌝ }
     requires { ⌜ count .cycles ≤ 65535 ⌝ }
-    ensures { λ r. ⌜ Wrote 22 at (endOf count refusal) (now (out .entry)) (now (out .exit)) r ⌝ }
+    ensures { λ r. ⌜ Wrote 22 at (endLine count refusal) (now (out .entry)) (now (out .exit)) r ⌝ }
 {
     let second = put(out, at, b"END ");
     let third = put_decimal(out, second, count.steps as u16);
