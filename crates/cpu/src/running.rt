@@ -131,6 +131,7 @@ pub fn step(rom: &[u16], machine: Machine, input: Input) -> Stepped
 // One step on the cells where they stand.
 pub fn step_in_place(rom: &[u16], cells: &mut [u8; 128], control: Control, input: Input) -> Reached
     ensures { λ r. ⌜ reachedStep (now (cells .exit)) r ≡ stepOf upd17132 (now (rom .entry)) input (machineOf (now (cells .entry)) control) ⌝ }
+    ensures { λ r. ⌜ r .count ≡ stepCost upd17132 (now (rom .entry)) input (machineOf (now (cells .entry)) control) ⌝ }
 {
     go(rom, cells, control, input, 1)
 }
