@@ -27,7 +27,7 @@ cyclesOf word skip = cond (not (isMarked skip) && readsTable (wordFlow word)) 2 
 abbrev pub nextCycles : List ℕ → Machine → ℕ
 nextCycles rom m = cyclesOf (getD rom (m .control .pc) 0) (m .control .skip)
 
--- a completed step counts for one and its cycles; one that answers "standing", or is refused, for nothing
+-- a completed step counts for one step and its cycles; one that answers "standing", or is refused, for nothing
 abbrev pub costOf : ℕ → Reply → Count
 costOf cycles done = record { steps = 1; cycles = cycles }
 costOf cycles inStandby = none

@@ -40,8 +40,8 @@ pub struct Count {
     pub cycles: u32,
 }
 
-// What steps up to a refusal, standby or the budget leave beside the cells; how many of them were completed; and the last one's
-// answer.
+// What steps up to a refusal, standby or the budget leave beside the cells; how many of them were completed, with their cycles; and
+// the last one's answer.
 pub struct Reached {
     pub control: Control,
     pub count: Count,
@@ -74,7 +74,7 @@ impl End {
     }
 }
 
-// The machine after a run, the steps that it completed, and how it ended.
+// The machine after a run, the steps that it completed with their cycles, and how it ended.
 pub struct Ran {
     pub machine: Machine,
     pub count: Count,

@@ -28,7 +28,7 @@ module _ (chip : Chip) (rom : List ℕ) (input : Input) where
     pub cycles : (n : ℕ) → (run n m .count .steps ≤ run n m .count .cycles) × (run n m .count .cycles ≤ 2 * run n m .count .steps)
     -- a run of 1 is a step, its count included
     pub single : run 1 m ≡ stepRun chip rom input m
-    -- "It ends .. at the budget": the count is at most the budget
+    -- "It ends .. at the budget": the steps are at most the budget
     pub bounded : (n : ℕ) → run n m .count .steps ≤ n
     -- "It reports the number of steps completed": for k up to that number the run of k steps completes them all, refused by
     -- nothing
@@ -37,7 +37,7 @@ module _ (chip : Chip) (rom : List ℕ) (input : Input) where
     -- short of that number the whole run is this one and a run of the steps that are left; a run that ends standing would at
     -- release 1 go on
     pub rest : (n k : ℕ) → k < run n m .count .steps → run n m ≡ after (run k m .count) (run (n - k) (run k m .machine))
-    -- "a refused run keeps the state of its completed steps": it is the run of its count, where the number is not 1
+    -- "a refused run keeps the state of its completed steps": it is the run of its steps, where the number is not 1
     pub whole : (n : ℕ) → (run n m .refusal ≡ 1 → ⊥) → run (run n m .count .steps) m ≡ ended (run n m .count) 0 (run n m .machine)
     -- "It ends at a refusal": which the next step on its record meets
     pub next : (n : ℕ) → (run n m .refusal ≡ 1 → ⊥) → (run n m .refusal ≡ 0 → ⊥)

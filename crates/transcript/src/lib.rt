@@ -18,7 +18,8 @@ pub enum Printed {
     TooShort,
 }
 
-// How far the records have come: the machine, the steps completed, the refusal or 0, and where the text goes on.
+// How far the records have come: the machine, the steps completed with their cycles, the refusal or 0, and where the text
+// goes on.
 struct Progress {
     machine: Machine,
     count: Count,
