@@ -69,8 +69,8 @@ typedef struct {
     uint8_t release;
 } pollwezen_input;
 
-/* The steps that a run completed, the cycles that these took, and its refusal or POLLWEZEN_DONE. MOVT takes two cycles and every
- * other step one, a skipped MOVT too. */
+/* The steps that a run completed, the cycles that these took, and its refusal or POLLWEZEN_DONE. A MOVT that is run takes
+ * two cycles, every other step one, a skipped MOVT among them. */
 typedef struct {
     uint32_t steps;
     uint32_t cycles;
