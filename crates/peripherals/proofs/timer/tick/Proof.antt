@@ -1,0 +1,11 @@
+use borrow.Author.Needs.{needs}
+use Rattle.peripherals.specs.Timer.{tickOf}
+use Rattle.peripherals.proofs.timer.tick.Statement.{statement}
+use Rattle.peripherals.proofs.timer.tick.Tie as tie
+
+returns : tie.Need-returns
+unfolding tickOf
+returns c = rw (c .before .counted .ensures, c .moved .ensures)
+
+pub tick-spec : {M : Type 1} → statement M
+tick-spec = tie.close (tie.spec (λ c κs. search needs) (λ c κs. search needs) returns)

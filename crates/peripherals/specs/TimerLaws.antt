@@ -1,0 +1,48 @@
+-- What the timer does, tick by tick and pulse by pulse. Proved in proofs/Ticks.antt, proofs/Pulses.antt and proofs/Since.antt.
+-- Assumes nothing.
+use mathlib.Core.Path.{_≡_}
+use mathlib.Core.Bool.{true, false}
+use Prim.Native.Nat.{ℕ, zero, suc, _+_, _/_, _%_, _≤_, _<_}
+use Rattle.laws.specs.Bit.{bit}
+use Rattle.peripherals.specs.Range.{peripheralsInRange}
+use Rattle.peripherals.specs.Registers.{resetPeripherals}
+use Rattle.peripherals.specs.Timer.{periodOf, pulsesOf, comesOf, isMatch, countOf, tickOf}
+use Rattle.peripherals.specs.declared.Peripherals.{Peripherals}
+
+pub record TickLaws (p : Peripherals) (cycles pulse : ℕ) : Type 0 where
+  pub registers : tickOf p cycles pulse .registers ≡ p .registers
+  pub modulo : tickOf p cycles pulse .modulo ≡ p .modulo
+  pub ranged : peripheralsInRange p ≡ true → peripheralsInRange (tickOf p cycles pulse) ≡ true
+
+-- with each clock of the divider a step has one pulse or none, and `comesOf` is their number
+pub record PulseLaws (clock divider cycles pulse : ℕ) : Type 0 where
+  pub one : clock < 3 → cycles ≤ 2 → pulsesOf (periodOf clock) divider cycles ≤ 1
+  pub number : clock < 3 → cycles ≤ 2 → bit (comesOf clock divider cycles pulse) ≡ pulsesOf (periodOf clock) divider cycles
+
+-- the peripherals so many cycles after reset, while nothing is written to 11H or to the modulo register
+pub record Since (cycles : ℕ) (p : Peripherals) : Type 0 where
+  pub mode : p .registers ≡ resetPeripherals .registers
+  pub modulo : p .modulo ≡ resetPeripherals .modulo
+  pub counter : p .counter ≡ cycles / 16 % 256
+  pub divider : p .divider ≡ cycles % 128
+
+-- so many ticks of one cycle from reset
+abbrev pub ticked : ℕ → Peripherals
+ticked zero = resetPeripherals
+ticked (suc n) = tickOf (ticked n) 1 0
+
+pub record ResetLaws : Type 0 where
+  pub start : Since 0 resetPeripherals
+  pub tick : (cycles more pulse : ℕ) (p : Peripherals) → more ≤ 2 → Since cycles p → Since (cycles + more) (tickOf p more pulse)
+  pub ticks : (cycles : ℕ) → Since cycles (ticked cycles)
+
+-- the counter after so many pulses from 0 with TMEN 1
+abbrev pub pulsed : ℕ → ℕ → ℕ
+pulsed modulo zero = 0
+pulsed modulo (suc n) = countOf modulo (pulsed modulo n)
+
+-- the first match comes with pulse N + 1, N = 0 too, and leaves the counter 0
+pub record MatchLaws (modulo : ℕ) : Type 0 where
+  pub before : modulo < 256 → (n : ℕ) → n < modulo → isMatch modulo (pulsed modulo n) ≡ false
+  pub first : modulo < 256 → isMatch modulo (pulsed modulo modulo) ≡ true
+  pub left : modulo < 256 → pulsed modulo (modulo + 1) ≡ 0
