@@ -5,3 +5,4 @@ pub mod First
 pub mod Wrap
 pub mod Lists
 pub mod Bits
+pub mod Again

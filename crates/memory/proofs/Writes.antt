@@ -8,13 +8,13 @@ use borrow.Author.Tests.{eqb-true, eqb-false, ltb-true, ltb-false, eq-eqb}
 use lib.Dec.{T, eqb, ltb}
 use lib.ListN.{getD, length, length-set}
 use lib.Seq.{getD-set-same, getD-set-other, set-out}
+use Rattle.laws.proofs.Again.{again}
 use Rattle.laws.proofs.Booleans.{or-neither}
 use Rattle.laws.proofs.Every.{every-at, every-of, passed, holds}
 use Rattle.memory.specs.Chip.{Chip}
 use Rattle.memory.specs.Range.{cellInRange, cellsInRange}
 use Rattle.memory.specs.Write.{Write, keptOf, writeOf, writesApplied, touches}
 use Rattle.memory.specs.WriteLaws.{WriteLaws}
-use Rattle.memory.proofs.Again.{again}
 
 module _ (chip : Chip) where
   pub same : (cells : List ℕ) (at v : ℕ) → at < length cells → getD (writeOf chip cells at v) at 0 ≡ keptOf chip at v
