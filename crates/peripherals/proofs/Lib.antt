@@ -5,3 +5,4 @@ pub mod Ticks
 pub mod Pulses
 pub mod Since
 pub mod Values
+pub mod Writes

@@ -39,9 +39,9 @@ module _ (cycles more pulse : ℕ) (p : Peripherals) (small : more ≤ 2) (s : S
   unfolding resetPeripherals table comesOf periodOf
   counter = rw (s .mode, s .modulo, s .counter, s .divider) (counts-by _ cycles more refl small)
 
-  tick : Since (cycles + more) (tickOf p more pulse)
+  goes-on : Since (cycles + more) (tickOf p more pulse)
   unfolding tickOf
-  tick = record { mode = s .mode; modulo = s .modulo; counter = counter; divider = rw (s .divider) (omega arith) }
+  goes-on = record { mode = s .mode; modulo = s .modulo; counter = counter; divider = rw (s .divider) (omega arith) }
 
 start : Since 0 resetPeripherals
 unfolding resetPeripherals
@@ -49,7 +49,7 @@ start = record { mode = refl; modulo = refl; counter = refl; divider = refl }
 
 ticks : (cycles : ℕ) → Since cycles (ticked cycles)
 ticks zero = start
-ticks (suc n) = rw add-one at (tick n 1 0 (ticked n) (lit≤ tt) (ticks n))
+ticks (suc n) = rw add-one at (goes-on n 1 0 (ticked n) (lit≤ tt) (ticks n))
 
 pub reset-laws : ResetLaws
-reset-laws = record { start = start; tick = tick; ticks = ticks }
+reset-laws = record { start = start; tick = goes-on; counter = λ n. ticks n .counter; divider = λ n. ticks n .divider }

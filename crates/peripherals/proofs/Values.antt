@@ -10,16 +10,16 @@ use Rattle.peripherals.proofs.Pulses.{match-laws}
 use Rattle.peripherals.proofs.Since.{reset-laws}
 
 after-15 : ticked 15 .counter ≡ 0
-after-15 = reset-laws .ticks 15 .counter
+after-15 = reset-laws .counter 15
 
 after-16 : ticked 16 .counter ≡ 1
-after-16 = reset-laws .ticks 16 .counter
+after-16 = reset-laws .counter 16
 
 after-4080 : ticked 4080 .counter ≡ 255
-after-4080 = reset-laws .ticks 4080 .counter
+after-4080 = reset-laws .counter 4080
 
 after-4096 : ticked 4096 .counter ≡ 0
-after-4096 = reset-laws .ticks 4096 .counter
+after-4096 = reset-laws .counter 4096
 
 seven-milliseconds : pulsed 0xDA 219 ≡ 0
 seven-milliseconds = match-laws 0xDA .left (lit< tt)

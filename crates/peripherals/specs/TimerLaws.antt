@@ -34,7 +34,8 @@ ticked (suc n) = tickOf (ticked n) 1 0
 pub record ResetLaws : Type 0 where
   pub start : Since 0 resetPeripherals
   pub tick : (cycles more pulse : ℕ) (p : Peripherals) → more ≤ 2 → Since cycles p → Since (cycles + more) (tickOf p more pulse)
-  pub ticks : (cycles : ℕ) → Since cycles (ticked cycles)
+  pub counter : (cycles : ℕ) → ticked cycles .counter ≡ cycles / 16 % 256
+  pub divider : (cycles : ℕ) → ticked cycles .divider ≡ cycles % 128
 
 -- the counter after so many pulses from 0 with TMEN 1
 abbrev pub pulsed : ℕ → ℕ → ℕ

@@ -28,10 +28,11 @@ fn comes(clock: u8, divider: u8, cycles: u8, pulse: u8) -> bool
 fn count(modulo: u8, counter: u8) -> u8
     ensures { λ r. ⌜ r ≡ countOf modulo counter ⌝ }
 {
+    let next = std::num::wrapping_add_u8(counter, 1);
     if counter == modulo {
         return 0;
     }
-    std::num::wrapping_add_u8(counter, 1)
+    next
 }
 
 // Seven bits, whatever TMEN and TMCK are.

@@ -10,7 +10,7 @@ returns c = rw (eq-eqb _ _ (c .if1 .taken))
 
 returns-2 : tie.Need-returns-2
 unfolding countOf
-returns-2 c = rw (ne-eqb _ _ (c .before .if1 .left)) (c .wrapping-add-u8 .ensures)
+returns-2 c = rw (ne-eqb _ _ (c .if1 .left)) (c .before .wrapping-add-u8 .ensures)
 
 pub count-spec : {M : Type 1} → statement M
-count-spec = tie.close (tie.spec returns (λ c κs. search needs) returns-2)
+count-spec = tie.close (tie.spec (λ c κs. search needs) returns returns-2)
