@@ -46,8 +46,8 @@ pub fn peek(p: Peripherals, rf: u8) -> u8
     if 7 <= at {
         return 0;
     }
-    let registers = p.registers;
-    registers[at]
+    let held = p.registers;
+    held[at]
 }
 
 // The counter after a write: 0 where the write has TMRES.
