@@ -6,3 +6,4 @@ pub mod Wrap
 pub mod Lists
 pub mod Bits
 pub mod Again
+pub mod Stored

@@ -4,15 +4,16 @@ use mathlib.Core.Path.{_≡_, _∙_, refl}
 use mathlib.Core.Bool.{Bool, true, false}
 use mathlib.Core.List.{List, [], _∷_}
 use Prim.Native.Nat.{ℕ, _<_, _≤_}
-use borrow.Author.Tests.{eqb-true, eqb-false, ltb-true, ltb-false, eq-eqb}
-use lib.Dec.{T, eqb, ltb}
+use borrow.Author.Tests.{eqb-false, eq-eqb}
+use lib.Dec.{eqb}
 use lib.ListN.{getD, length, length-set}
 use lib.Seq.{getD-set-same, getD-set-other, set-out}
 use Rattle.laws.proofs.Again.{again}
 use Rattle.laws.proofs.Booleans.{or-neither}
-use Rattle.laws.proofs.Every.{every-at, every-of, passed, holds}
+use Rattle.laws.proofs.Every.{passed}
+use Rattle.laws.proofs.Stored.{every-stored}
 use Rattle.memory.specs.Chip.{Chip}
-use Rattle.memory.specs.Range.{cellInRange, cellsInRange}
+use Rattle.memory.specs.Range.{cellsInRange}
 use Rattle.memory.specs.Write.{Write, keptOf, writeOf, writesApplied, touches}
 use Rattle.memory.specs.WriteLaws.{WriteLaws}
 
@@ -34,25 +35,12 @@ module _ (chip : Chip) where
   kept-kept at v = again v (getD (chip .masks) at 0)
 
   -- a cell in range by what it holds
-  abbrev Fine : ℕ → ℕ → Type 0
-  Fine at v = T (eqb (keptOf chip at v) v)
-
-  fine-kept : (at v : ℕ) → Fine at (keptOf chip at v)
-  fine-kept at v = passed (eq-eqb _ _ (kept-kept at v))
-
-  fine-after : (cells : List ℕ) (at v k : ℕ) (here inside : Bool) → eqb k at ≡ here → ltb at (length cells) ≡ inside
-      → Fine k (getD cells k 0) → Fine k (getD (writeOf chip cells at v) k 0)
-  fine-after cells at v k false inside e l f = rw (other cells at v k (eqb-false k at e)) f
-  fine-after cells at v k true false e l f = rw (past cells at v (ltb-false at (length cells) l)) f
-  fine-after cells at v k true true e l f =
-      rw (eqb-true k at e, same cells at v (ltb-true at (length cells) l)) (fine-kept at v)
+  abbrev fits : ℕ → ℕ → Bool
+  fits at v = eqb (keptOf chip at v) v
 
   ranged-once : (cells : List ℕ) (at v : ℕ) → cellsInRange chip cells ≡ true → cellsInRange chip (writeOf chip cells at v) ≡ true
-  unfolding cellsInRange
-  ranged-once cells at v r =
-      holds (every-of (cellInRange chip (writeOf chip cells at v)) 128 (λ k h.
-      fine-after cells at v k (eqb k at) (ltb at (length cells)) refl refl
-      (every-at (cellInRange chip cells) 128 (passed r) k h)))
+  unfolding cellsInRange writeOf
+  ranged-once cells at v r = every-stored fits cells at (keptOf chip at v) (passed (eq-eqb _ _ (kept-kept at v))) 128 r
 
   pub ranged : (ws : List Write) (cells : List ℕ) → cellsInRange chip cells ≡ true → cellsInRange chip (writesApplied chip cells ws) ≡ true
   unfolding writesApplied
