@@ -12,7 +12,7 @@ use lib.Seq.{set-out}
 use Rattle.laws.proofs.Arms.{Rest, in-rest}
 use Rattle.laws.proofs.Lists.{getD-past}
 use Rattle.peripherals.specs.Registers.{placeOf, peekOf, pokeOf}
-use Rattle.peripherals.specs.Table.{table, staysAt, TM}
+use Rattle.peripherals.specs.Table.{controlRegisters, staysAt, TM}
 use Rattle.peripherals.specs.declared.Peripherals.{Peripherals}
 
 -- the arms of `place`, the last one first
@@ -21,7 +21,7 @@ keys =
     (0x35 ∷ []) ∷ (0x34 ∷ []) ∷ (0x33 ∷ []) ∷ (0x32 ∷ []) ∷ (0x24 ∷ []) ∷ (0x12 ∷ []) ∷ (0x11 ∷ []) ∷ []
 
 pub no-register : (rf : ℕ) → rf < 256 → Rest keys rf → 7 ≡ placeOf rf
-unfolding table
+unfolding controlRegisters
 no-register rf h r = eqb→eq _ _ (in-rest keys [] (λ (k : ℕ). eqb 7 (placeOf k)) 256 tt rf h r tt)
 
 module _ (p : Peripherals) (rf : ℕ) (past : length (p .registers) ≤ placeOf rf) where

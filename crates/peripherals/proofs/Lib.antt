@@ -4,5 +4,6 @@ pub mod Tests
 pub mod Ticks
 pub mod Pulses
 pub mod Since
+pub mod Counting
 pub mod Values
 pub mod Writes

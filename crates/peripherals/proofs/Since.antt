@@ -9,7 +9,7 @@ use borrow.Author.Tests.{eqb-true, eqb-false, ltb-true, ltb-false}
 use lib.Dec.{eqb, ltb, lit≤}
 use Rattle.laws.specs.Wrap.{wrapNext}
 use Rattle.peripherals.specs.Registers.{resetPeripherals}
-use Rattle.peripherals.specs.Table.{table}
+use Rattle.peripherals.specs.Table.{controlRegisters}
 use Rattle.peripherals.specs.Timer.{periodOf, pulsesOf, comesOf, countOf, counterOf, tickOf}
 use Rattle.peripherals.specs.TimerLaws.{Since, ticked, ResetLaws}
 use Rattle.peripherals.specs.declared.Peripherals.{Peripherals}
@@ -36,7 +36,7 @@ counts-by false cycles more e h =
 
 module _ (cycles more pulse : ℕ) (p : Peripherals) (small : more ≤ 2) (s : Since cycles p) where
   counter : counterOf p more pulse ≡ (cycles + more) / 16 % 256
-  unfolding resetPeripherals table comesOf periodOf
+  unfolding resetPeripherals controlRegisters comesOf periodOf
   counter = rw (s .mode, s .modulo, s .counter, s .divider) (counts-by _ cycles more refl small)
 
   goes-on : Since (cycles + more) (tickOf p more pulse)

@@ -1,44 +1,32 @@
 -- The range is kept by POKE and PUT, and bounds the directions.
 -- Assumes nothing.
 use mathlib.Core.Path.{_≡_, refl}
-use mathlib.Core.Bool.{Bool, true, false, not, _&&_}
+use mathlib.Core.Bool.{Bool, true, not, _&&_}
 use mathlib.Core.List.{List}
-use Prim.Native.Nat.{ℕ, zero, suc, _≤_, _<_}
+use Prim.Native.Nat.{ℕ, zero, suc, _<_}
 use native.Mathlib.Omega.{arith}
-use borrow.Author.Tests.{eqb-true, eqb-false, ltb-true, ltb-false, lt-ltb, eq-eqb}
+use borrow.Author.Tests.{ltb-true, lt-ltb, eq-eqb}
 use lib.Bits.{bitAnd, bitOr, or-lt, and-le-r}
-use lib.Dec.{T, eqb, eqb→eq, ltb, lit<}
-use lib.ListN.{getD, set, length}
-use lib.Seq.{getD-set-same, getD-set-other, set-out}
+use lib.Dec.{eqb, eqb→eq, ltb, lit<}
+use lib.ListN.{getD}
 use Rattle.laws.specs.Every.{every}
 use Rattle.laws.proofs.Again.{again}
 use Rattle.laws.proofs.Booleans.{both, either}
-use Rattle.laws.proofs.Every.{every-at, every-of, passed, holds}
+use Rattle.laws.proofs.Every.{every-at, passed, holds}
+use Rattle.laws.proofs.Stored.{every-stored}
 use Rattle.peripherals.specs.Directions.{groupDirection, timerDirection, directionsOf}
 use Rattle.peripherals.specs.Range.{registerInRange, peripheralsInRange}
-use Rattle.peripherals.specs.RangeLaws.{RangeLaws}
+use Rattle.peripherals.specs.PeripheralLaws.{PeripheralLaws}
 use Rattle.peripherals.specs.Registers.{placeOf, isOn, storedOf, clearedOf, pokeOf, withModulo, resetPeripherals}
-use Rattle.peripherals.specs.Table.{table, staysAt, TM, TMO, P0BGIO, P0EBIO, P0DBIO, P0CBIO, P0ABIO, TMRES, TMOSEL, GROUP}
+use Rattle.peripherals.specs.Table.{controlRegisters, staysAt, TM, TMO, P0BGIO, P0EBIO, P0DBIO, P0CBIO, P0ABIO, TMRES, TMOSEL, GROUP}
 use Rattle.peripherals.specs.declared.Peripherals.{Peripherals}
 
 -- a register in range by what it holds
-abbrev Fine : ℕ → ℕ → Type 0
-Fine k v = T (eqb (bitAnd v (staysAt k)) v)
-
-fine-kept : (k v : ℕ) → Fine k (bitAnd v (staysAt k))
-fine-kept k v = passed (eq-eqb _ _ (again v (staysAt k)))
-
-fine-after : (registers : List ℕ) (at v k : ℕ) (here inside : Bool) → eqb k at ≡ here → ltb at (length registers) ≡ inside
-    → Fine k (getD registers k 0) → Fine k (getD (storedOf registers at v) k 0)
-fine-after registers at v k false inside e l f = rw (getD-set-other registers at k _ 0 (eqb-false k at e)) f
-fine-after registers at v k true false e l f = rw (set-out registers at _ (ltb-false at (length registers) l)) f
-fine-after registers at v k true true e l f =
-    rw (eqb-true k at e, getD-set-same registers at _ 0 (ltb-true at (length registers) l)) (fine-kept at v)
+abbrev fits : ℕ → ℕ → Bool
+fits k v = eqb (bitAnd v (staysAt k)) v
 
 stored : (registers : List ℕ) (at v : ℕ) → every (registerInRange registers) 7 ≡ true → every (registerInRange (storedOf registers at v)) 7 ≡ true
-stored registers at v r =
-    holds (every-of (registerInRange (storedOf registers at v)) 7 (λ k h.
-    fine-after registers at v k (eqb k at) (ltb at (length registers)) refl refl (every-at (registerInRange registers) 7 (passed r) k h)))
+stored registers at v r = every-stored fits registers at (bitAnd v (staysAt at)) (passed (eq-eqb _ _ (again v (staysAt at)))) 7 r
 
 cleared : (at v counter : ℕ) → counter < 256 → clearedOf at v counter < 256
 cleared at v counter h =
@@ -71,7 +59,7 @@ narrow k = ltb (staysAt k) 16
 
 -- no register has a bit above a nibble
 nibble : (registers : List ℕ) (k : ℕ) → k < 7 → every (registerInRange registers) 7 ≡ true → getD registers k 0 < 16
-unfolding narrow table
+unfolding narrow controlRegisters
 nibble registers k h r =
     let x = getD registers k 0 in
     let e : bitAnd x (staysAt k) ≡ x = eqb→eq _ _ (every-at (registerInRange registers) 7 (passed r) k h) in
@@ -92,15 +80,15 @@ module _ (registers : List ℕ) (r : every (registerInRange registers) 7 ≡ tru
   directed (suc (suc (suc (suc (suc k))))) = lit< tt
 
 start : peripheralsInRange resetPeripherals ≡ true
-unfolding peripheralsInRange resetPeripherals table
+unfolding peripheralsInRange resetPeripherals controlRegisters
 start = refl
 
 in-range-registers : (p : Peripherals) → peripheralsInRange p ≡ true → every (registerInRange (p .registers)) 7 ≡ true
 unfolding peripheralsInRange
 in-range-registers p h = both (every (registerInRange (p .registers)) 7) _ h .0
 
-pub range-laws : (p : Peripherals) → RangeLaws p
-range-laws p = record {
+pub peripheral-laws : (p : Peripherals) → PeripheralLaws p
+peripheral-laws p = record {
   start = start;
   poked = poked p;
   put = put p;

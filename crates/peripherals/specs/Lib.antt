@@ -4,4 +4,4 @@ pub mod Directions
 pub mod Timer
 pub mod Range
 pub mod TimerLaws
-pub mod RangeLaws
+pub mod PeripheralLaws

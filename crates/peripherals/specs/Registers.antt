@@ -6,7 +6,7 @@ use Prim.Native.Nat.{ℕ, suc}
 use lib.Bits.{bitAnd}
 use lib.Dec.{eqb, ltb}
 use lib.ListN.{getD, set, length}
-use Rattle.peripherals.specs.Table.{Register, table, staysAt, TM, TMRES}
+use Rattle.peripherals.specs.Table.{Register, controlRegisters, staysAt, TM, TMRES}
 use Rattle.peripherals.specs.declared.Peripherals.{Peripherals}
 
 -- how many registers come before the one with an address
@@ -16,11 +16,11 @@ placeIn (r ∷ rs) rf = cond (eqb rf (r .address)) 0 (suc (placeIn rs rf))
 
 -- where the register with an address stands in the table; past its end where there is none
 abbrev pub placeOf : ℕ → ℕ
-placeOf rf = placeIn table rf
+placeOf rf = placeIn controlRegisters rf
 
 -- below 40H, where this is false, there is "no such control register"; 40H to 7FH is data memory
 unfoldable pub isControl : ℕ → Bool
-isControl rf = ltb (placeOf rf) (length table)
+isControl rf = ltb (placeOf rf) (length controlRegisters)
 
 -- whether a flag bit of the register at a place is 1
 abbrev pub isOn : List ℕ → ℕ → ℕ → Bool
@@ -55,4 +55,4 @@ withModulo p v = record { registers = p .registers; modulo = v; counter = p .cou
 -- "All that is new starts as source document 000 says": 13.1.3, 13.1.4, tables 12-1 to 12-7; the divider starts at 0
 unfoldable pub resetPeripherals : Peripherals
 resetPeripherals =
-    record { registers = map (λ (r : Register). r .reset) table; modulo = 0xFF; counter = 0; divider = 0 }
+    record { registers = map (λ (r : Register). r .reset) controlRegisters; modulo = 0xFF; counter = 0; divider = 0 }

@@ -12,24 +12,24 @@ pub record Register : Type 0 where
   pub stays : ℕ
   pub reset : ℕ
 
-abbrev register : ℕ → ℕ → ℕ → Register
-register a s r = record { address = a; stays = s; reset = r }
+abbrev line : ℕ → ℕ → ℕ → Register
+line a s r = record { address = a; stays = s; reset = r }
 
 -- figures 13-2, 13-7, 12-2 and 12-3; "TMRES reads 0", so it does not stay
-unfoldable pub table : List Register
-table =
-    register 0x11 0b1011 0b1000
-    ∷ register 0x12 0b0001 0b0000
-    ∷ register 0x24 0b0001 0b0000
-    ∷ register 0x32 0b0011 0b0000
-    ∷ register 0x33 0b1111 0b0000
-    ∷ register 0x34 0b1111 0b0000
-    ∷ register 0x35 0b1111 0b0000
+unfoldable pub controlRegisters : List Register
+controlRegisters =
+    line 0x11 0b1011 0b1000
+    ∷ line 0x12 0b0001 0b0000
+    ∷ line 0x24 0b0001 0b0000
+    ∷ line 0x32 0b0011 0b0000
+    ∷ line 0x33 0b1111 0b0000
+    ∷ line 0x34 0b1111 0b0000
+    ∷ line 0x35 0b1111 0b0000
     ∷ []
 
 -- the bits that stay at a place of the table; past its end none
 abbrev pub staysAt : ℕ → ℕ
-staysAt k = getD (map (λ (r : Register). r .stays) table) k 0
+staysAt k = getD (map (λ (r : Register). r .stays) controlRegisters) k 0
 
 -- the places: 11H, the timer's mode
 abbrev pub TM : ℕ

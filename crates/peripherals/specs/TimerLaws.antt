@@ -1,12 +1,14 @@
--- What the timer does, tick by tick and pulse by pulse. Proved in proofs/Ticks.antt, proofs/Pulses.antt and proofs/Since.antt.
+-- What the timer does, tick by tick and pulse by pulse. Proved in the files Ticks, Pulses, Since and Counting of proofs/.
 -- Assumes nothing.
 use mathlib.Core.Path.{_≡_}
 use mathlib.Core.Bool.{true, false}
+use mathlib.Core.List.{List, [], _∷_}
 use Prim.Native.Nat.{ℕ, zero, suc, _+_, _/_, _%_, _≤_, _<_}
 use Rattle.laws.specs.Bit.{bit}
 use Rattle.peripherals.specs.Range.{peripheralsInRange}
-use Rattle.peripherals.specs.Registers.{resetPeripherals}
-use Rattle.peripherals.specs.Timer.{periodOf, pulsesOf, comesOf, isMatch, countOf, tickOf}
+use Rattle.peripherals.specs.Registers.{isOn, resetPeripherals}
+use Rattle.peripherals.specs.Table.{TM, TMEN}
+use Rattle.peripherals.specs.Timer.{clockOf, periodOf, pulsesOf, comesOf, isMatch, countOf, tickOf}
 use Rattle.peripherals.specs.declared.Peripherals.{Peripherals}
 
 pub record TickLaws (p : Peripherals) (cycles pulse : ℕ) : Type 0 where
@@ -47,3 +49,28 @@ pub record MatchLaws (modulo : ℕ) : Type 0 where
   pub before : modulo < 256 → (n : ℕ) → n < modulo → isMatch modulo (pulsed modulo n) ≡ false
   pub first : modulo < 256 → isMatch modulo (pulsed modulo modulo) ≡ true
   pub left : modulo < 256 → pulsed modulo (modulo + 1) ≡ 0
+
+-- a tick's cycles and its pulse bit
+pub record Tick : Type 0 where
+  pub cycles : ℕ
+  pub pulse : ℕ
+
+-- ticks one after the other, their cycles, and how many of them have a pulse
+abbrev pub afterTicks : List Tick → Peripherals → Peripherals
+afterTicks [] p = p
+afterTicks (t ∷ ts) p = afterTicks ts (tickOf p (t .cycles) (t .pulse))
+
+abbrev pub cyclesIn : List Tick → ℕ
+cyclesIn [] = 0
+cyclesIn (t ∷ ts) = t .cycles + cyclesIn ts
+
+abbrev pub pulsesIn : List Tick → Peripherals → ℕ
+pulsesIn [] p = 0
+pulsesIn (t ∷ ts) p =
+    bit (comesOf (clockOf (p .registers)) (p .divider) (t .cycles) (t .pulse)) + pulsesIn ts (tickOf p (t .cycles) (t .pulse))
+
+-- while nothing is written: with TMEN 1 the counter counts the pulses, with TMEN 0 it stays; the divider runs in any case
+pub record CountLaws (p : Peripherals) (ts : List Tick) : Type 0 where
+  pub counted : isOn (p .registers) TM TMEN ≡ true → p .counter ≡ 0 → afterTicks ts p .counter ≡ pulsed (p .modulo) (pulsesIn ts p)
+  pub stopped : isOn (p .registers) TM TMEN ≡ false → afterTicks ts p .counter ≡ p .counter
+  pub running : p .divider < 128 → afterTicks ts p .divider ≡ (p .divider + cyclesIn ts) % 128

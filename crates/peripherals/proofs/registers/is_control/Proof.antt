@@ -1,11 +1,11 @@
 use borrow.Author.Needs.{needs}
 use Rattle.peripherals.specs.Registers.{isControl}
-use Rattle.peripherals.specs.Table.{table}
+use Rattle.peripherals.specs.Table.{controlRegisters}
 use Rattle.peripherals.proofs.registers.is_control.Statement.{statement}
 use Rattle.peripherals.proofs.registers.is_control.Tie as tie
 
 returns : tie.Need-returns
-unfolding isControl table
+unfolding isControl controlRegisters
 returns c = rw (c .place .ensures)
 
 pub is-control-spec : {M : Type 1} → statement M

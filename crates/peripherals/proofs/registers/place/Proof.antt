@@ -1,34 +1,34 @@
-use Rattle.peripherals.specs.Table.{table}
+use Rattle.peripherals.specs.Table.{controlRegisters}
 use Rattle.peripherals.proofs.Addresses.{no-register}
 use Rattle.peripherals.proofs.registers.place.Statement.{statement}
 use Rattle.peripherals.proofs.registers.place.Tie as tie
 
 returns : tie.Need-returns
-unfolding table
+unfolding controlRegisters
 returns c = rw (c .match .keys1)
 
 returns-2 : tie.Need-returns-2
-unfolding table
+unfolding controlRegisters
 returns-2 c = rw (c .match .keys2)
 
 returns-3 : tie.Need-returns-3
-unfolding table
+unfolding controlRegisters
 returns-3 c = rw (c .match .keys3)
 
 returns-4 : tie.Need-returns-4
-unfolding table
+unfolding controlRegisters
 returns-4 c = rw (c .match .keys4)
 
 returns-5 : tie.Need-returns-5
-unfolding table
+unfolding controlRegisters
 returns-5 c = rw (c .match .keys5)
 
 returns-6 : tie.Need-returns-6
-unfolding table
+unfolding controlRegisters
 returns-6 c = rw (c .match .keys6)
 
 returns-7 : tie.Need-returns-7
-unfolding table
+unfolding controlRegisters
 returns-7 c = rw (c .match .keys7)
 
 returns-8 : tie.Need-returns-8

@@ -9,7 +9,7 @@ use Rattle.peripherals.specs.Range.{peripheralsInRange}
 use Rattle.peripherals.specs.Registers.{pokeOf, withModulo, resetPeripherals}
 use Rattle.peripherals.specs.declared.Peripherals.{Peripherals}
 
-pub record RangeLaws (p : Peripherals) : Type 0 where
+pub record PeripheralLaws (p : Peripherals) : Type 0 where
   pub start : peripheralsInRange resetPeripherals ≡ true
   pub poked : (rf v : ℕ) → peripheralsInRange p ≡ true → peripheralsInRange (pokeOf p rf v) ≡ true
   pub put : (v : ℕ) → v < 256 → peripheralsInRange p ≡ true → peripheralsInRange (withModulo p v) ≡ true
