@@ -10,7 +10,7 @@ use native.Mathlib.Omega.{arith}
 use Rattle.laws.specs.Bit.{bit}
 use Rattle.peripherals.specs.Registers.{isOn}
 use Rattle.peripherals.specs.Table.{TM, TMEN}
-use Rattle.peripherals.specs.Timer.{clockOf, comesOf, countOf, counterOf, tickOf}
+use Rattle.peripherals.specs.Timer.{clockOf, comesOf, counterOf, tickOf}
 use Rattle.peripherals.specs.TimerLaws.{pulsed, Tick, afterTicks, cyclesIn, pulsesIn, CountLaws}
 use Rattle.peripherals.specs.declared.Peripherals.{Peripherals}
 

@@ -2,7 +2,7 @@
 -- 8 MHz is 7.008 ms, 219 pulses.
 -- Assumes nothing.
 use mathlib.Core.Path.{_≡_}
-use mathlib.Core.Bool.{true, false}
+use mathlib.Core.Bool.{false}
 use lib.Dec.{lit<}
 use Rattle.peripherals.specs.Timer.{isMatch}
 use Rattle.peripherals.specs.TimerLaws.{ticked, pulsed}

@@ -14,7 +14,7 @@ use Rattle.laws.proofs.Again.{again}
 use Rattle.laws.proofs.Booleans.{both, either}
 use Rattle.laws.proofs.Every.{every-at, passed, holds}
 use Rattle.laws.proofs.Stored.{every-stored}
-use Rattle.peripherals.specs.Directions.{groupDirection, timerDirection, directionsOf}
+use Rattle.peripherals.specs.Directions.{directionsOf}
 use Rattle.peripherals.specs.Range.{registerInRange, peripheralsInRange}
 use Rattle.peripherals.specs.PeripheralLaws.{PeripheralLaws}
 use Rattle.peripherals.specs.Registers.{placeOf, isOn, storedOf, clearedOf, pokeOf, withModulo, resetPeripherals}

@@ -2,7 +2,7 @@
 ghost use mathlib.Core.Path.{_≡_};
 ghost use Rattle.peripherals.specs.Range.{peripheralsInRange};
 use crate::Peripherals;
-use crate::registers::stays;
+use crate::registers::mask;
 
 // No bit that does not stay, and a divider of seven bits; counter and modulo are whole bytes.
 pub fn in_range(p: Peripherals) -> bool
@@ -11,7 +11,7 @@ pub fn in_range(p: Peripherals) -> bool
     let registers = p.registers;
     for at in 0..7usize {
         let held = registers[at];
-        if held & stays(at) != held {
+        if held & mask(at) != held {
             return false;
         }
     }

@@ -6,7 +6,7 @@ ghost use Rattle.peripherals.specs.Registers.{placeOf, isControl, peekOf
 use crate::Peripherals;
 
 // The bits that stay at each place.
-const STAYS: [u8; 7] = [0b1011, 0b0001, 0b0001, 0b0011, 0b1111, 0b1111, 0b1111];
+const MASKS: [u8; 7] = [0b1011, 0b0001, 0b0001, 0b0011, 0b1111, 0b1111, 0b1111];
 
 // Where the register with this address stands, or 7.
 fn place(rf: u8) -> usize
@@ -24,11 +24,11 @@ fn place(rf: u8) -> usize
     }
 }
 
-pub(crate) fn stays(at: usize) -> u8
+pub(crate) fn mask(at: usize) -> u8
     requires { ⌜ at < 7 ⌝ }
     ensures { λ r. ⌜ r ≡ staysAt at ⌝ }
 {
-    STAYS[at]
+    MASKS[at]
 }
 
 // Whether there is a control register with this address.
@@ -72,7 +72,7 @@ pub fn poke(p: Peripherals, rf: u8, v: u8) -> Peripherals
         return p;
     }
     let mut registers = p.registers;
-    registers[at] = v & stays(at);
+    registers[at] = v & mask(at);
     let counter = cleared(at, v, p.counter);
     Peripherals {
         registers,

@@ -21,12 +21,12 @@ loop-holds c = (omega arith, refl)
 returns : tie.Need-returns Inv-loop μ-loop
 returns c =
     let p = c .before .before .before .before .before .args .p in
-    out p (one-fails (p .registers) _ (rw (c .before .stays .ensures) at (c .if1 .taken)) (omega arith))
+    out p (one-fails (p .registers) _ (rw (c .before .mask .ensures) at (c .if1 .taken)) (omega arith))
 
 loop-again : tie.Need-loop-again Inv-loop μ-loop
 loop-again c =
     let l = c .before .before .before .loop in
-    (omega arith, one-more (c .before .before .before .before .before .args .p .registers) (l .at) (rw (c .before .stays .ensures) at (c .if1 .left)) (l .inv .1))
+    (omega arith, one-more (c .before .before .before .before .before .args .p .registers) (l .at) (rw (c .before .mask .ensures) at (c .if1 .left)) (l .inv .1))
 
 returns-2 : tie.Need-returns-2 Inv-loop μ-loop
 returns-2 c =

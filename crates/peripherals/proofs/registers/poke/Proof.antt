@@ -15,7 +15,7 @@ returns c =
 
 returns-2 : tie.Need-returns-2
 unfolding pokeOf
-returns-2 c = rw (c .cleared .ensures, c .before .stays .ensures, c .before .before .before .before .place .ensures)
+returns-2 c = rw (c .cleared .ensures, c .before .mask .ensures, c .before .before .before .before .place .ensures)
 
 pub poke-spec : {M : Type 1} → statement M
 poke-spec =
