@@ -1,15 +1,16 @@
 -- The timer as reset leaves it, cycle by cycle: fx/256 with the modulo 255, so that it counts as a plain byte.
 -- Assumes nothing.
-use mathlib.Core.Path.{_≡_, _∙_, refl}
+use mathlib.Core.Path.{_≡_, _∙_, refl, sym}
 use mathlib.Core.Bool.{Bool, true, false, cond}
 use Prim.Native.Nat.{ℕ, zero, suc, _+_, _/_, _%_, _≤_, _<_}
 use native.Mathlib.Numerals.{add-one}
 use native.Mathlib.Omega.{arith}
-use borrow.Author.Tests.{eqb-true, eqb-false, ltb-true, ltb-false}
+use borrow.Author.Tests.{eqb-true, eqb-false, ltb-true, ltb-false, ne-eqb}
 use lib.Dec.{eqb, ltb, lit≤}
+use lib.Seq.{getD-set-other}
 use Rattle.laws.specs.Wrap.{wrapNext}
-use Rattle.peripherals.specs.Registers.{resetPeripherals}
-use Rattle.peripherals.specs.Table.{controlRegisters}
+use Rattle.peripherals.specs.Registers.{placeOf, pokeOf, resetPeripherals}
+use Rattle.peripherals.specs.Table.{controlRegisters, TM}
 use Rattle.peripherals.specs.Timer.{periodOf, pulsesOf, comesOf, countOf, counterOf, tickOf}
 use Rattle.peripherals.specs.TimerLaws.{Since, ticked, ResetLaws}
 use Rattle.peripherals.specs.declared.Peripherals.{Peripherals}
@@ -43,6 +44,20 @@ module _ (cycles more pulse : ℕ) (p : Peripherals) (small : more ≤ 2) (s : S
   unfolding tickOf
   goes-on = record { mode = s .mode; modulo = s .modulo; counter = counter; divider = rw (s .divider) (omega arith) }
 
+-- another register than 11H stands at another place
+elsewhere : (rf : ℕ) → (rf ≡ 0x11 → ⊥) → placeOf rf ≡ TM → ⊥
+unfolding controlRegisters
+elsewhere rf n e = let q = rw (ne-eqb rf 0x11 n) at e in omega (arith, q)
+
+other-register : (cycles rf v : ℕ) (p : Peripherals) → (rf ≡ 0x11 → ⊥) → Since cycles p → Since cycles (pokeOf p rf v)
+unfolding pokeOf
+other-register cycles rf v p n s = record {
+  mode = getD-set-other (p .registers) (placeOf rf) TM _ 0 (λ e. elsewhere rf n (sym e)) ∙ s .mode;
+  modulo = s .modulo;
+  counter = rw (ne-eqb (placeOf rf) TM (elsewhere rf n)) (s .counter);
+  divider = s .divider;
+}
+
 start : Since 0 resetPeripherals
 unfolding resetPeripherals
 start = record { mode = refl; modulo = refl; counter = refl; divider = refl }
@@ -52,4 +67,4 @@ ticks zero = start
 ticks (suc n) = rw add-one at (goes-on n 1 0 (ticked n) (lit≤ tt) (ticks n))
 
 pub reset-laws : ResetLaws
-reset-laws = record { start = start; tick = goes-on; counter = λ n. ticks n .counter; divider = λ n. ticks n .divider }
+reset-laws = record { start = start; tick = goes-on; poke = other-register; counter = λ n. ticks n .counter; divider = λ n. ticks n .divider }

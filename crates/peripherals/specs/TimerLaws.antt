@@ -4,9 +4,10 @@ use mathlib.Core.Path.{_≡_}
 use mathlib.Core.Bool.{true, false}
 use mathlib.Core.List.{List, [], _∷_}
 use Prim.Native.Nat.{ℕ, zero, suc, _+_, _/_, _%_, _≤_, _<_}
+use lib.ListN.{getD}
 use Rattle.laws.specs.Bit.{bit}
 use Rattle.peripherals.specs.Range.{peripheralsInRange}
-use Rattle.peripherals.specs.Registers.{isOn, resetPeripherals}
+use Rattle.peripherals.specs.Registers.{isOn, pokeOf, resetPeripherals}
 use Rattle.peripherals.specs.Table.{TM, TMEN}
 use Rattle.peripherals.specs.Timer.{clockOf, periodOf, pulsesOf, comesOf, isMatch, countOf, tickOf}
 use Rattle.peripherals.specs.declared.Peripherals.{Peripherals}
@@ -23,7 +24,7 @@ pub record PulseLaws (clock divider cycles pulse : ℕ) : Type 0 where
 
 -- the peripherals so many cycles after reset, while nothing is written to 11H or to the modulo register
 pub record Since (cycles : ℕ) (p : Peripherals) : Type 0 where
-  pub mode : p .registers ≡ resetPeripherals .registers
+  pub mode : getD (p .registers) TM 0 ≡ getD (resetPeripherals .registers) TM 0
   pub modulo : p .modulo ≡ resetPeripherals .modulo
   pub counter : p .counter ≡ cycles / 16 % 256
   pub divider : p .divider ≡ cycles % 128
@@ -36,6 +37,7 @@ ticked (suc n) = tickOf (ticked n) 1 0
 pub record ResetLaws : Type 0 where
   pub start : Since 0 resetPeripherals
   pub tick : (cycles more pulse : ℕ) (p : Peripherals) → more ≤ 2 → Since cycles p → Since (cycles + more) (tickOf p more pulse)
+  pub poke : (cycles rf v : ℕ) (p : Peripherals) → (rf ≡ 0x11 → ⊥) → Since cycles p → Since cycles (pokeOf p rf v)
   pub counter : (cycles : ℕ) → ticked cycles .counter ≡ cycles / 16 % 256
   pub divider : (cycles : ℕ) → ticked cycles .divider ≡ cycles % 128
 
