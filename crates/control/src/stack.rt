@@ -17,7 +17,7 @@ fn unchanged(stack: [u16; 5], place: u8) -> [u16; 5]
 }
 
 // The address on a place.
-pub fn address_on(stack: &[u16; 5], place: u8) -> u16
+pub(crate) fn address_on(stack: &[u16; 5], place: u8) -> u16
     ensures { λ r. ⌜ r ≡ getD (now (stack .entry)) place 0 ⌝ }
 {
     if 5 <= place {
@@ -27,7 +27,7 @@ pub fn address_on(stack: &[u16; 5], place: u8) -> u16
 }
 
 // The place 0 again.
-pub fn clear(stack: &mut [u16; 5], place: u8)
+pub(crate) fn clear(stack: &mut [u16; 5], place: u8)
     ensures { λ _. ⌜ now (stack .exit) ≡ set (now (stack .entry)) place 0 ⌝ }
 {
     if 5 <= place {

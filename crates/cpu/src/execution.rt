@@ -75,7 +75,7 @@ fn fixed(
 }
 
 // An instruction.
-pub fn execute(
+pub(crate) fn execute(
     rom: &[u16],
     instruction: Instruction,
     cells: &mut [u8; 128],

@@ -45,7 +45,7 @@ fn word_cycles(word: u16) -> u32
 }
 
 // The cycles of the step at PC, where it is completed.
-pub fn cycles_at(rom: &[u16], regs: Regs) -> u32
+pub(crate) fn cycles_at(rom: &[u16], regs: Regs) -> u32
     ensures { λ r. ⌜ r ≡ cyclesOf (getD (now (rom .entry)) (regs .pc) 0) (regs .skip) ⌝ }
 {
     let Fetched::Word(word) = fetch(rom, regs.pc) else {
@@ -58,7 +58,7 @@ pub fn cycles_at(rom: &[u16], regs: Regs) -> u32
 }
 
 // Whether the machine stays in standby.
-pub fn stays_standing(regs: Regs, release: u8) -> bool
+pub(crate) fn stays_standing(regs: Regs, release: u8) -> bool
     ensures { λ r. ⌜ r ≡ (isMarked (regs .standby) && eqb release 0) ⌝ }
 {
     if regs.standby != 0 {
@@ -80,7 +80,7 @@ fn woken(regs: Regs) -> Regs
 }
 
 // A step of a machine in range that does not stay in standby. A skipped word is fetched and not decoded.
-pub fn advance(
+pub(crate) fn advance(
     rom: &[u16],
     cells: &mut [u8; 128],
     stack: &mut [u16; 5],
@@ -103,7 +103,7 @@ pub fn advance(
     execute(rom, instruction, cells, stack, awake, pins, directions)
 }
 
-pub fn regs_of(c: Control) -> Regs
+pub(crate) fn regs_of(c: Control) -> Regs
     ensures { λ r. ⌜ withStack (c .stack) r ≡ c ⌝ }
 {
     Regs {
@@ -114,7 +114,7 @@ pub fn regs_of(c: Control) -> Regs
     }
 }
 
-pub fn control_of(stack: [u16; 5], r: Regs) -> Control
+pub(crate) fn control_of(stack: [u16; 5], r: Regs) -> Control
     ensures { λ c. ⌜ c ≡ withStack stack r ⌝ }
 {
     Control {
@@ -126,7 +126,7 @@ pub fn control_of(stack: [u16; 5], r: Regs) -> Control
     }
 }
 
-pub fn join(cells: [u8; 128], control: Control) -> Machine
+pub(crate) fn join(cells: [u8; 128], control: Control) -> Machine
     ensures { λ m. ⌜ m ≡ machineOf cells control ⌝ }
 {
     Machine {

@@ -94,7 +94,7 @@ pub struct Fields {
 }
 
 // The list as a value: a constant array of structs is built where it is named, so name it once and not for each row.
-pub fn patterns() -> [Pattern; 47]
+pub(crate) fn patterns() -> [Pattern; 47]
     ensures { λ r. ⌜ r ≡ map patternOf listing ⌝ }
 {
     LISTING
@@ -111,7 +111,7 @@ fn operands(first: u8, second: u8, addr: u16) -> Fields
 }
 
 // What stands in the fields of a word.
-pub fn fields_in(format: Format, word: u16) -> Fields
+pub(crate) fn fields_in(format: Format, word: u16) -> Fields
     ensures { λ r. ⌜ r ≡ fieldsIn format word ⌝ }
 {
     let m = (word / 16 % 128) as u8;
@@ -143,7 +143,7 @@ fn placed(format: Format, operands: Fields) -> u16
 }
 
 // The word of a row with its operands, cut to 16 bits: operands that are too large for their fields do not come back from it.
-pub fn join(pattern: Pattern, operands: Fields) -> u16
+pub(crate) fn join(pattern: Pattern, operands: Fields) -> u16
     ensures { λ r. ⌜ r ≡ joinOf pattern operands ⌝ }
 {
     let format = pattern.1;

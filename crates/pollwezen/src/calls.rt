@@ -27,7 +27,7 @@ fn by_fields(control: Control) -> Control
     }
 }
 
-pub fn step_by_parts(rom: &[u16], memory: Memory, control: Control, input: Input) -> LentStep
+pub(crate) fn step_by_parts(rom: &[u16], memory: Memory, control: Control, input: Input) -> LentStep
     ensures { λ r. ⌜ r ≡ lentStepOf (stepOf upd17132 (now (rom .entry)) input (record { memory = memory; control = control })) ⌝ }
 {
     let mut cells = memory.cells;
@@ -42,7 +42,7 @@ pub fn step_by_parts(rom: &[u16], memory: Memory, control: Control, input: Input
     }
 }
 
-pub fn run_by_value(rom: &[u16], machine: Machine, input: Input, budget: u32) -> LentRun
+pub(crate) fn run_by_value(rom: &[u16], machine: Machine, input: Input, budget: u32) -> LentRun
     ensures { λ r. ⌜ r ≡ lentRunOf (runOf upd17132 (now (rom .entry)) input budget machine) ⌝ }
 {
     let r = cpu::run(rom, machine, input, budget);

@@ -25,7 +25,7 @@ fn unnamed(number: u8) -> VerdictReply
 }
 
 // The check's answer.
-pub fn of_verdict(verdict: Verdict) -> VerdictReply
+pub(crate) fn of_verdict(verdict: Verdict) -> VerdictReply
     ensures { λ r. ⌜ r ≡ verdictReplyOf (answerOf verdict) ⌝ }
 {
     let number = verdict.number();
@@ -42,7 +42,7 @@ pub fn of_verdict(verdict: Verdict) -> VerdictReply
 }
 
 // The reader's answer.
-pub fn of_loaded(loaded: Loaded) -> ReadReply
+pub(crate) fn of_loaded(loaded: Loaded) -> ReadReply
     ensures { λ r. ⌜ r ≡ readReplyOf (readReply loaded) ⌝ }
 {
     match loaded {
@@ -75,7 +75,7 @@ fn answered(number: u8, length: usize) -> OutputReply
 }
 
 // The writer's answer.
-pub fn of_written(written: Written) -> OutputReply
+pub(crate) fn of_written(written: Written) -> OutputReply
     ensures { λ r. ⌜ r ≡ writeReplyOf (writeReply written) ⌝ }
 {
     match written {
@@ -93,7 +93,7 @@ fn too_short() -> u8
 }
 
 // The transcript's answer.
-pub fn of_printed(printed: Printed) -> OutputReply
+pub(crate) fn of_printed(printed: Printed) -> OutputReply
     ensures { λ r. ⌜ r ≡ printReplyOf (printReply printed) ⌝ }
 {
     match printed {

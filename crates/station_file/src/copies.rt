@@ -9,7 +9,7 @@ use crate::two_bytes::put_number;
 use crate::two_bytes::word;
 
 // So many bytes of a list, from a place of it to a place of another.
-pub fn copy_bytes(bytes: &[u8], from: usize, count: usize, out: &mut [u8], at: usize)
+pub(crate) fn copy_bytes(bytes: &[u8], from: usize, count: usize, out: &mut [u8], at: usize)
     requires { ⌜ (from + count ≤ length (now bytes)) × (at + count ≤ length (now out)) ⌝ }
     ensures { λ r. ⌜ now (out .exit) ≡ splice at (take count (drop from (now (bytes .entry)))) (now (out .entry)) ⌝ }
 {
@@ -21,7 +21,7 @@ pub fn copy_bytes(bytes: &[u8], from: usize, count: usize, out: &mut [u8], at: u
 }
 
 // So many words of a file.
-pub fn read_words(file: &[u8], from: usize, count: usize, rom: &mut [u16])
+pub(crate) fn read_words(file: &[u8], from: usize, count: usize, rom: &mut [u16])
     requires { ⌜ (from + 2 * count ≤ length (now file)) × (count ≤ length (now rom)) ⌝ }
     ensures { λ r. ⌜ now (rom .exit) ≡ overlay (words count (drop from (now (file .entry)))) (now (rom .entry)) ⌝ }
 {
@@ -34,7 +34,7 @@ pub fn read_words(file: &[u8], from: usize, count: usize, rom: &mut [u16])
     }
 }
 
-pub fn put_words(rom: &[u16], out: &mut [u8], at: usize)
+pub(crate) fn put_words(rom: &[u16], out: &mut [u8], at: usize)
     requires { ⌜ at + 2 * length (now rom) ≤ length (now out) ⌝ }
     ensures { λ r. ⌜ now (out .exit) ≡ splice at (wordBytes (now (rom .entry))) (now (out .entry)) ⌝ }
 {

@@ -4,7 +4,7 @@ ghost use Rattle.station_file.specs.Station.{form1, romCount, sheetCount
 ghost use Rattle.station_file.specs.Places.{formOf};
 use crate::Form;
 
-pub fn form_1() -> Form
+pub(crate) fn form_1() -> Form
     ensures { λ r. ⌜ formOf r ≡ form1 ⌝ }
 {
     Form {
@@ -13,7 +13,7 @@ pub fn form_1() -> Form
     }
 }
 
-pub fn rom_count(count: usize) -> bool
+pub(crate) fn rom_count(count: usize) -> bool
     ensures { λ r. ⌜ r ≡ romCount count ⌝ }
 {
     if count < 1 {
@@ -22,7 +22,7 @@ pub fn rom_count(count: usize) -> bool
     count <= 1024
 }
 
-pub fn sheet_count(words: usize, count: usize) -> bool
+pub(crate) fn sheet_count(words: usize, count: usize) -> bool
     ensures { λ r. ⌜ r ≡ sheetCount words count ⌝ }
 {
     if count == 0 {

@@ -24,7 +24,7 @@ fn proper_input(index: usize, byte: u8) -> bool
     byte < 16
 }
 
-pub fn entries(bytes: &[u8], at: usize, count: usize) -> Test
+pub(crate) fn entries(bytes: &[u8], at: usize, count: usize) -> Test
     requires { ⌜ at ≤ length (now bytes) ⌝ }
     ensures { λ r. ⌜ scanned (now (bytes .entry)) at count r ≡ fields entryField 0 count (drop at (now (bytes .entry))) ⌝ }
     ensures { λ r. ⌜ ScanFits (now (bytes .entry)) at count r ⌝ }
@@ -80,7 +80,7 @@ fn good_records(bytes: &[u8], at: usize, count: usize) -> usize
 }
 
 // The good records first, then byte by byte from the first that is not.
-pub fn inputs(bytes: &[u8], at: usize, count: usize) -> Test
+pub(crate) fn inputs(bytes: &[u8], at: usize, count: usize) -> Test
     requires { ⌜ at ≤ length (now bytes) ⌝ }
     ensures { λ r. ⌜ scanned (now (bytes .entry)) at count r ≡ fields inputField 0 count (drop at (now (bytes .entry))) ⌝ }
     ensures { λ r. ⌜ ScanFits (now (bytes .entry)) at count r ⌝ }

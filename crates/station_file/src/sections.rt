@@ -120,7 +120,7 @@ fn after_form(file: &[u8], at: usize, form: Form) -> Layout
 }
 
 // Where each section of a file lies, or the file's first refusal.
-pub fn parse(file: &[u8], form: Form) -> Layout
+pub(crate) fn parse(file: &[u8], form: Form) -> Layout
     ensures { λ r. ⌜ stationIn (now (file .entry)) r ≡ parseOf (formOf form) (now (file .entry)) ⌝ }
     ensures { λ r. ⌜ LayoutFits (now (file .entry)) r ⌝ }
 {

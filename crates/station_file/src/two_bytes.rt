@@ -7,13 +7,13 @@ ghost use Rattle.station_file.specs.Write.{bytesOf};
 ghost use Rattle.station_file.specs.Places.{numberIn, NumberFits, splice};
 use crate::Number;
 
-pub fn word(high: u8, low: u8) -> u16
+pub(crate) fn word(high: u8, low: u8) -> u16
     ensures { λ r. ⌜ r ≡ high * 256 + low ⌝ }
 {
     (high as u16) * 256 + low as u16
 }
 
-pub fn read_number(file: &[u8], at: usize) -> Number
+pub(crate) fn read_number(file: &[u8], at: usize) -> Number
     requires { ⌜ at ≤ length (now file) ⌝ }
     ensures { λ r. ⌜ numberIn (now (file .entry)) r ≡ number 2 (drop at (now (file .entry))) ⌝ }
     ensures { λ r. ⌜ NumberFits (now (file .entry)) r ⌝ }
@@ -25,7 +25,7 @@ pub fn read_number(file: &[u8], at: usize) -> Number
     Number::Is(value, at + 2)
 }
 
-pub fn put_number(value: usize, out: &mut [u8], at: usize)
+pub(crate) fn put_number(value: usize, out: &mut [u8], at: usize)
     requires { ⌜ at + 2 ≤ length (now out) ⌝ }
     ensures { λ r. ⌜ now (out .exit) ≡ splice at (bytesOf 2 value) (now (out .entry)) ⌝ }
 {

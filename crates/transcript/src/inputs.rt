@@ -19,7 +19,7 @@ fn five(bytes: &[u8], at: usize) -> [u8; 5]
 }
 
 // The record with an index, eleven bytes each.
-pub fn input_at(bytes: &[u8], k: usize) -> Input
+pub(crate) fn input_at(bytes: &[u8], k: usize) -> Input
     requires { ⌜ 11 * k + 11 ≤ length (now bytes) ⌝ }
     ensures { λ r. ⌜ r ≡ inputAt k (now (bytes .entry)) ⌝ }
 {

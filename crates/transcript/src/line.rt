@@ -46,7 +46,7 @@ fn fields(pc: u16, word: [u8; 4], after: Machine) -> [u8; 18]
 }
 
 // The line of a record.
-pub fn put_line(
+pub(crate) fn put_line(
     out: &mut [u8],
     at: usize,
     number: u16,
@@ -63,7 +63,7 @@ pub fn put_line(
 }
 
 // A failed check, and the line's end.
-pub fn put_failure(out: &mut [u8], at: usize, word: u16, rule: u8) -> usize
+pub(crate) fn put_failure(out: &mut [u8], at: usize, word: u16, rule: u8) -> usize
     requires { ⌜ at ≤ 800000 ⌝ }
     ensures { λ r. ⌜ Wrote 15 at (verdictText (fail word rule) ++ newline) (now (out .entry)) (now (out .exit)) r ⌝ }
 {
@@ -75,7 +75,7 @@ pub fn put_failure(out: &mut [u8], at: usize, word: u16, rule: u8) -> usize
 }
 
 // The last line.
-pub fn put_end(out: &mut [u8], at: usize, count: Count, refusal: u16) -> usize
+pub(crate) fn put_end(out: &mut [u8], at: usize, count: Count, refusal: u16) -> usize
     requires { ⌜ at ≤ 800000 ⌝ }
     requires { ⌜ count .steps ≤ 65535 ⌝ }
     requires { ⌜ count .cycles ≤ 65535 ⌝ }
@@ -91,7 +91,7 @@ pub fn put_end(out: &mut [u8], at: usize, count: Count, refusal: u16) -> usize
 }
 
 // The one line of a bad file.
-pub fn put_bad_file(out: &mut [u8], refusal: u16) -> usize
+pub(crate) fn put_bad_file(out: &mut [u8], refusal: u16) -> usize
     ensures { λ r. ⌜ Wrote 11 0 (fileText ++ decimal refusal ++ newline) (now (out .entry)) (now (out .exit)) r ⌝ }
 {
     let second = put(out, 0, b"FILE ");

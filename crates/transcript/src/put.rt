@@ -15,7 +15,7 @@ fn put_byte(out: &mut [u8], at: usize, b: u8)
     out[at] = b;
 }
 
-pub fn put(out: &mut [u8], at: usize, text: &[u8]) -> usize
+pub(crate) fn put(out: &mut [u8], at: usize, text: &[u8]) -> usize
     requires { ⌜ at + length (now text) ≤ 1000000 ⌝ }
     ensures { λ r. ⌜ Wrote (length (now (text .entry))) at (now (text .entry)) (now (out .entry)) (now (out .exit)) r ⌝ }
 {
@@ -28,7 +28,7 @@ pub fn put(out: &mut [u8], at: usize, text: &[u8]) -> usize
 }
 
 // In decimal, with no zero before it.
-pub fn put_decimal(out: &mut [u8], at: usize, n: u16) -> usize
+pub(crate) fn put_decimal(out: &mut [u8], at: usize, n: u16) -> usize
     requires { ⌜ at ≤ 900000 ⌝ }
     ensures { λ r. ⌜ Wrote 5 at (decimalOf n) (now (out .entry)) (now (out .exit)) r ⌝ }
 {

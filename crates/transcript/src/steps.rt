@@ -108,7 +108,7 @@ fn put_record(
 }
 
 // The records in turn, numbered from 1.
-pub fn put_records(rom: &[u16], inputs: &[u8], out: &mut [u8], from: usize) -> Progress
+pub(crate) fn put_records(rom: &[u16], inputs: &[u8], out: &mut [u8], from: usize) -> Progress
     requires { ⌜ length (now inputs) ≤ 45045 ⌝ }
     requires { ⌜ from ≤ 1000 ⌝ }
     ensures { λ r. ⌜ RecordedTo (now (rom .entry)) (now (inputs .entry)) (length (now (inputs .entry)) / recordBytes) from (now (out .entry)) (now (out .exit)) r ⌝ }

@@ -27,7 +27,7 @@ fn put_sheet(rom: &[u16], sheet: &[u8], out: &mut [u8]) -> usize
 }
 
 // The whole text.
-pub fn put_station(rom: &[u16], sheet: &[u8], inputs: &[u8], out: &mut [u8]) -> usize
+pub(crate) fn put_station(rom: &[u16], sheet: &[u8], inputs: &[u8], out: &mut [u8]) -> usize
     requires { ⌜ length (now inputs) ≤ 45045 ⌝ }
     ensures { λ r. ⌜ Wrote 100000 0 (stationText (record { rom = now (rom .entry); sheet = now (sheet .entry); inputs = now (inputs .entry) })) (now (out .entry)) (now (out .exit)) r ⌝ }
 {

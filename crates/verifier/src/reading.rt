@@ -13,7 +13,7 @@ use sheet::has_all_of;
 use sheet::with_depths;
 
 // The flow of a word; past the ROM there is no instruction.
-pub fn flow_at(rom: &[u16], word: u16) -> Flow
+pub(crate) fn flow_at(rom: &[u16], word: u16) -> Flow
     ensures { λ r. ⌜ r ≡ flowAt (now (rom .entry)) word ⌝ }
 {
     let at = word as usize;
@@ -24,7 +24,7 @@ pub fn flow_at(rom: &[u16], word: u16) -> Flow
 }
 
 // Whether a word that a rule names lies in the ROM and its entry covers what is asked.
-pub fn is_met(rom: &[u16], sheet: &[u8], word: u16, asked: u8) -> bool
+pub(crate) fn is_met(rom: &[u16], sheet: &[u8], word: u16, asked: u8) -> bool
     ensures { λ r. ⌜ r ≡ met upd17132 (now (rom .entry)) (now (sheet .entry)) (record { word = word; entry = asked }) ⌝ }
 {
     if rom.len() <= word as usize {
@@ -54,7 +54,7 @@ fn return_skip_at(rom: &[u16], word: u16) -> bool
 }
 
 // The depths that some reached RETSK holds, in one pass over the ROM.
-pub fn return_depths(rom: &[u16], sheet: &[u8]) -> [bool; 6]
+pub(crate) fn return_depths(rom: &[u16], sheet: &[u8]) -> [bool; 6]
     requires { ⌜ length (now rom) ≤ 1024 ⌝ }
     ensures { λ r. ⌜ ReturnDepths upd17132 (now (rom .entry)) (now (sheet .entry)) r ⌝ }
 {

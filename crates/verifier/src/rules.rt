@@ -131,7 +131,7 @@ fn rule_6(flow: Flow, entry: u8) -> bool
 }
 
 // Whether a rule holds, by its number; rules 3 to 6 are those of reached words.
-pub fn rule_holds(
+pub(crate) fn rule_holds(
     rom: &[u16],
     sheet: &[u8],
     depths: [bool; 6],
