@@ -17,7 +17,8 @@ use Rattle.memory.specs.Chip.{Chip}
 use Rattle.machine.specs.Parts.{isMarked}
 use Rattle.machine.specs.Ranges.{places}
 use Rattle.machine.specs.declared.Control.{Control}
-use Rattle.control.specs.Control.{Transfer, refusedControl, nextOf, topOf, inReach, branchOf, callOf, returnOf, tableOf, standbyOf, onwardOf, byArOf, controlOf}
+use Rattle.control.specs.Control.{Transfer, refusedControl, markOf, nextOf, topOf, inReach, branchOf, callOf, returnOf, tableOf, standbyOf, onwardOf, byArOf, controlOf}
+use Rattle.control.specs.declared.Rest.{Rest}
 use Rattle.control.specs.declared.ArOp.{ArOp}
 use Rattle.control.specs.declared.Flow.{Flow}
 use Rattle.control.specs.declared.Flow.the-variants.{Onward, Skips, Branches, Calls, Returns, ReadsTable, StandsBy, ByAr, Refused}
@@ -114,9 +115,9 @@ module _ (chip : Chip) (rom sheet : List ℕ) where
     in-table : (ar : ℕ) → ar < 2 ^ 10 → Rules ReadsTable → leb (length rom) ar ≡ false
     in-table ar h r = lt-leb (length rom) ar (omega (arith, eqb-true (length rom) _ (both (eqb (length rom) _) _ (r .third) .0)))
 
-    stands-by : Rules StandsBy → Kept (standbyOf chip c) t
+    stands-by : (rest : Rest) → Rules (StandsBy rest) → Kept (standbyOf chip (markOf rest) c) t
     unfolding standbyOf
-    stands-by r = record { unrefused = refl; path = moved (N pc) (c .skip) 1 (named _ (both _ _ (r .fourth) .0)) unmarked }
+    stands-by rest r = record { unrefused = refl; path = moved (N pc) (c .skip) (markOf rest) (named _ (both _ _ (r .fourth) .0)) unmarked }
 
     by-ar : (op : ArOp) (ar : ℕ) → Rules (ByAr op) → Kept (byArOf chip op ar c) t
     by-ar op ar r = absurd (false≢true (r .third))
@@ -208,6 +209,6 @@ module _ (chip : Chip) (rom sheet : List ℕ) where
     follows (Calls to) q r b ar h = (calls to r, refl)
     follows (Returns skip) q r b ar h = (returns skip r q, refl)
     follows ReadsTable q r b ar h = (tables r, in-table ar h r)
-    follows StandsBy q r b ar h = (stands-by r, refl)
+    follows (StandsBy rest) q r b ar h = (stands-by rest r, refl)
     follows (ByAr op) q r b ar h = (by-ar op ar r, refl)
     follows (Refused n) q r b ar h = (refuses n r, refl)

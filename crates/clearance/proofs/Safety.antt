@@ -15,10 +15,13 @@ use Rattle.memory.specs.Chip.{Chip, upd17132, masks17132}
 use Rattle.memory.specs.Range.{cellsInRange}
 use Rattle.memory.specs.Write.{keptOf}
 use Rattle.machine.specs.Parts.{isMarked, resetMachine}
-use Rattle.machine.specs.Ranges.{controlInRange, marksInRange, machineInRange, inputInRange, romInRange, allInRange, budgetInRange}
-use Rattle.machine.specs.declared.Input.{Input}
+use Rattle.machine.specs.Ranges.{controlInRange, marksInRange, machineInRange, signalsInRange, romInRange, allInRange, budgetInRange}
+use Rattle.machine.specs.Signals.{Signals}
 use Rattle.machine.specs.declared.Machine.{Machine}
-use Rattle.cpu.specs.Cost.{nextCycles, none, stepCost}
+use Rattle.peripherals.specs.Registers.{resetPeripherals}
+use Rattle.peripherals.proofs.Writes.{peripheral-laws}
+use Rattle.cpu.specs.Cost.{none, stepCost}
+use Rattle.cpu.specs.Cycles.{nextCycles}
 use Rattle.cpu.specs.Reply.{Step, refusedStep}
 use Rattle.cpu.specs.Run.{Run, ended, runFrom, runOf}
 use Rattle.cpu.specs.Step.{stepOf}
@@ -44,7 +47,7 @@ module _ (chip : Chip) (rom sheet : List ℕ) (g : Cleared chip rom sheet) where
   moment : (m : Machine) (t : Tally) → Inv m t → Moment chip rom sheet m t
   moment m t v = record { inside = v .path .here .inside; opened = v .path .opened; level = v .path .here .level }
 
-  module _ (i : Input) where
+  module _ (i : Signals) where
     abbrev S : Machine → Step
     S m = stepOf chip rom i m
 
@@ -52,17 +55,17 @@ module _ (chip : Chip) (rom sheet : List ℕ) (g : Cleared chip rom sheet) where
     Holds s = Inv (s .machine) (s .tally)
 
     -- with the record and the ROM in range, what refusal 1 tests is the call's own
-    own : (m : Machine) → machineInRange chip m ≡ true → allInRange chip rom m i ≡ inputInRange i
+    own : (m : Machine) → machineInRange chip m ≡ true → allInRange chip rom m i ≡ signalsInRange i
     unfolding allInRange
-    own m r = rw (r, g .whole) (and-true (inputInRange i))
+    own m r = rw (r, g .whole) (and-true (signalsInRange i))
 
-    run-is : (budget : ℕ) (m : Machine) → machineInRange chip m ≡ true → (b : Bool) → (inputInRange i && budgetInRange budget) ≡ b
+    run-is : (budget : ℕ) (m : Machine) → machineInRange chip m ≡ true → (b : Bool) → (signalsInRange i && budgetInRange budget) ≡ b
         → runOf chip rom i budget m ≡ cond b (runFrom chip rom i budget none m) (ended none 1 m)
     unfolding runOf
     run-is budget m r b e = rw (own m r, e)
 
     -- with inputs in range
-    module _ (fine : inputInRange i ≡ true) where
+    module _ (fine : signalsInRange i ≡ true) where
       fair : (m : Machine) (t : Tally) → Inv m t → Fair chip rom sheet g i (isMarked (m .control .skip)) (flowAt rom (m .control .pc)) t (S m)
       fair m t v = stepped chip rom sheet g i m t (v .ranged) (v .path) (all-of chip rom i m (v .ranged) fine (g .whole))
 
@@ -153,7 +156,7 @@ module _ (chip : Chip) (rom sheet : List ℕ) (g : Cleared chip rom sheet) where
         ran = rw (completed, then (ending .count) (omega arith), whole-run) (ending .after)
 
     -- a run of no steps leaves the record
-    no-steps : (m : Machine) → machineInRange chip m ≡ true → (b : Bool) → (inputInRange i && budgetInRange 0) ≡ b → (runOf chip rom i 0 m) .machine ≡ m
+    no-steps : (m : Machine) → machineInRange chip m ≡ true → (b : Bool) → (signalsInRange i && budgetInRange 0) ≡ b → (runOf chip rom i 0 m) .machine ≡ m
     no-steps m r true e = ap (λ (x : Run). x .machine) (run-is 0 m r true e ∙ nothing-left chip rom i none m)
     no-steps m r false e = ap (λ (x : Run). x .machine) (run-is 0 m r false e)
 
@@ -169,7 +172,7 @@ module _ (chip : Chip) (rom sheet : List ℕ) (g : Cleared chip rom sheet) where
   refused-call : (k : HostCall) (m : Machine) → ownInRange k ≡ false → refusalAt chip rom k m ≡ 1 → Allowed chip rom sheet k m
   refused-call k m h a = record { answered = λ q. absurd (false≢true (sym h ∙ q)); onlyOne = inr a }
 
-  by-step : (form : CallForm) (i : Input) (m : Machine) (t : Tally) → Inv m t → (b : Bool) → inputInRange i ≡ b → Called (step form i) m t
+  by-step : (form : CallForm) (i : Signals) (m : Machine) (t : Tally) → Inv m t → (b : Bool) → signalsInRange i ≡ b → Called (step form i) m t
   by-step form i m t v true h = record {
     allowed = answered-call (step form i) m (fair i h m t v .answered);
     during = tt;
@@ -183,11 +186,11 @@ module _ (chip : Chip) (rom sheet : List ℕ) (g : Cleared chip rom sheet) where
         after = subst (λ (s : Step). Inv (s .machine) (afterReply (s .reply) (isMarked (m .control .skip)) (flowAt rom (m .control .pc)) t)) d v;
       }
 
-  by-run : (form : CallForm) (i : Input) (budget : ℕ) (m : Machine) (t : Tally) → Inv m t → (b : Bool) → (inputInRange i && budgetInRange budget) ≡ b
+  by-run : (form : CallForm) (i : Signals) (budget : ℕ) (m : Machine) (t : Tally) → Inv m t → (b : Bool) → (signalsInRange i && budgetInRange budget) ≡ b
       → Called (run form i budget) m t
   unfolding Within runTally
   by-run form i budget m t v true h =
-      let p = both (inputInRange i) (budgetInRange budget) h in
+      let p = both (signalsInRange i) (budgetInRange budget) h in
       record {
         allowed = answered-call (run form i budget) m (unrefused i (p .0) budget (p .1) m t v);
         during = within i (p .0) budget (p .1) m t v;
@@ -199,13 +202,13 @@ module _ (chip : Chip) (rom sheet : List ℕ) (g : Cleared chip rom sheet) where
         allowed = refused-call (run form i budget) m h (ap (λ (r : Run). r .refusal) d);
         during = λ k some.
             let none : k ≡ 0 = (let z : k ≤ 0 = subst (λ (r : Run). k ≤ r .count .steps) d some in omega arith) in
-            moment _ _ (rw (none, no-steps i m (v .ranged) (inputInRange i && budgetInRange 0) refl) v);
+            moment _ _ (rw (none, no-steps i m (v .ranged) (signalsInRange i && budgetInRange 0) refl) v);
         after = subst (λ (r : Run). Inv (r .machine) (runTally chip rom i (r .count .steps) m t)) (sym d) v;
       }
 
   called : (k : HostCall) (m : Machine) (t : Tally) → Inv m t → Called k m t
-  called (step form i) m t v = by-step form i m t v (inputInRange i) refl
-  called (run form i budget) m t v = by-run form i budget m t v (inputInRange i && budgetInRange budget) refl
+  called (step form i) m t v = by-step form i m t v (signalsInRange i) refl
+  called (run form i budget) m t v = by-run form i budget m t v (signalsInRange i && budgetInRange budget) refl
 
   good : (ks : List HostCall) (m : Machine) (t : Tally) → Inv m t → Good chip rom sheet m t ks
   good [] m t v = moment m t v
@@ -234,7 +237,7 @@ safe rom sheet whole every calls =
     } in
     good upd17132 rom sheet g calls resetMachine noCalls
     (record {
-      ranged = refl;
+      ranged = peripheral-laws resetPeripherals .start;
       path = record {
         places = refl;
         here = starts rom sheet (ltb-true 0 (length rom) (p .0)) every;

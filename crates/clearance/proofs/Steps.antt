@@ -1,7 +1,7 @@
 -- A step on a cleared ROM: it is not refused, and control stays on its path.
 -- Assumes nothing.
 use mathlib.Core.Path.{_≡_, _∙_, ap, refl, subst}
-use mathlib.Core.Bool.{Bool, true, false, _&&_, false≢true}
+use mathlib.Core.Bool.{Bool, true, false, cond, false≢true}
 use mathlib.Core.List.{List}
 use Prim.Native.Nat.{ℕ}
 use borrow.Author.Tests.{lt-leb}
@@ -12,18 +12,18 @@ use Rattle.isa.specs.Decode.{decodeOf}
 use Rattle.laws.proofs.Lists.{getD-inside}
 use Rattle.memory.specs.Chip.{Chip}
 use Rattle.memory.specs.Registers.{arOf}
-use Rattle.machine.specs.Parts.{isMarked, cellsOf, withCells, withControl}
+use Rattle.machine.specs.Parts.{HALT, isMarked, cellsOf, machineOf}
 use Rattle.machine.specs.Ranges.{machineInRange, allInRange}
 use Rattle.machine.specs.declared.Control.{Control}
-use Rattle.machine.specs.declared.Input.{Input}
+use Rattle.machine.specs.Signals.{Signals}
 use Rattle.machine.specs.declared.Machine.{Machine}
 use Rattle.control.specs.Control.{withStandby}
 use Rattle.control.specs.Flow.{flowOf, decodedFlow}
 use Rattle.control.specs.declared.Flow.{Flow}
 use Rattle.operations.specs.Writes.{holdsOf}
-use Rattle.cpu.specs.Execute.{dataOf, writtenOf, transferBy, executeOf}
+use Rattle.cpu.specs.Execute.{dataOf, writtenOf, setOf, transferBy, executeOf}
 use Rattle.cpu.specs.Reply.{refusalOf, Step, completedStep}
-use Rattle.cpu.specs.Step.{isStanding, woken, advanceOf, stepOf}
+use Rattle.cpu.specs.Step.{waits, tickedBy, woken, advanceOf, stepOf}
 use Rattle.cpu.proofs.Phases.{stays, passed-over, executed}
 use Rattle.cpu.proofs.RangeParts.{machine-parts}
 use Rattle.cpu.proofs.Turns.{step-advances}
@@ -33,7 +33,7 @@ use Rattle.clearance.specs.Rules.{noWord, wordAt, flowAt}
 use Rattle.clearance.proofs.Paths.{OnPath, follows}
 use Rattle.clearance.proofs.Ruled.{Cleared, Ruled, ruled}
 
-module _ (chip : Chip) (rom sheet : List ℕ) (g : Cleared chip rom sheet) (input : Input) where
+module _ (chip : Chip) (rom sheet : List ℕ) (g : Cleared chip rom sheet) (signals : Signals) where
   abbrev Path : Control → Tally → Type 0
   Path c t = OnPath chip rom sheet c t
 
@@ -50,7 +50,7 @@ module _ (chip : Chip) (rom sheet : List ℕ) (g : Cleared chip rom sheet) (inpu
     e = entryAt sheet (c .pc)
 
     abbrev Due : Bool → Type 0
-    Due skipped = Fair skipped (flowAt rom (c .pc)) t (advanceOf chip rom input m)
+    Due skipped = Fair skipped (flowAt rom (c .pc)) t (advanceOf chip rom signals m)
 
     -- the same control without the standby mark
     wakes : Path (withStandby 0 c) t
@@ -59,10 +59,10 @@ module _ (chip : Chip) (rom sheet : List ℕ) (g : Cleared chip rom sheet) (inpu
     inside : leb (length rom) (c .pc) ≡ false
     inside = lt-leb (length rom) (c .pc) (p .here .inside)
 
-    module _ (awake : (isStanding m && eqb (input .release) 0) ≡ false) where
+    module _ (awake : waits chip rom signals m ≡ false) where
       over : isMarked (c .skip) ≡ true → Due true
       over s =
-          subst (Fair true (flowAt rom (c .pc)) t) (passed-over chip rom input m awake inside s)
+          subst (Fair true (flowAt rom (c .pc)) t) (passed-over chip rom signals m awake inside s _ _ refl refl)
           (record {
             answered = refl;
             path = record {
@@ -79,12 +79,12 @@ module _ (chip : Chip) (rom sheet : List ℕ) (g : Cleared chip rom sheet) (inpu
       unfolding executeOf transferBy
       runs plain (is i) w u =
           let ar : ℕ = arOf (cellsOf m) in
-          let k = follows chip rom sheet g (withStandby 0 c) t wakes plain (flowOf i) (ap decodedFlow w) u (holdsOf chip (dataOf (woken m) input) i) ar
+          let k = follows chip rom sheet g (withStandby 0 c) t wakes plain (flowOf i) (ap decodedFlow w) u (holdsOf chip (dataOf (woken m) signals) i) ar
           (g .table (cellsOf m) (machine-parts chip m r .0)) in
-          let after : Machine = withCells (writtenOf chip rom input i (woken m)) (withControl ((transferBy chip rom input i (woken m)) .control) (woken m)) in
+          let after : Machine = machineOf (writtenOf chip rom signals i (woken m)) (setOf chip rom signals i (woken m)) ((transferBy chip rom signals i (woken m)) .control) in
           let word = ap decodeOf (getD-inside rom (c .pc) 0 noWord (p .here .inside)) ∙ w in
           subst (Fair false (flowAt rom (c .pc)) t)
-          (executed chip rom input m awake inside plain i (completedStep after) word (rw (k .0 .unrefused, k .1)))
+          (executed chip rom signals m awake inside plain i (completedStep after) word (rw (k .0 .unrefused, k .1)))
           (record { answered = refl; path = rw w (k .0 .path) })
       runs plain (refusedWord n) w u = absurd (false≢true (u .third))
 
@@ -92,9 +92,14 @@ module _ (chip : Chip) (rom sheet : List ℕ) (g : Cleared chip rom sheet) (inpu
       either true s = over s
       either false s = runs s (decodeOf (wordAt rom (c .pc))) refl (ruled chip rom sheet (g .every) (c .pc) (c .levels) (p .here))
 
-    advanced : (b : Bool) → (isStanding m && eqb (input .release) 0) ≡ b → Due (isMarked (c .skip))
-    advanced true a = subst (Fair (isMarked (c .skip)) (flowAt rom (c .pc)) t) (stays chip rom input m a) (record { answered = refl; path = p })
+    -- a standing step leaves control, whichever mark is set
+    stood : (b : Bool) → Path (cond b (tickedBy 1 (signals .pulse) m) m .control) t
+    stood true = p
+    stood false = p
+
+    advanced : (b : Bool) → waits chip rom signals m ≡ b → Due (isMarked (c .skip))
+    advanced true a = subst (Fair (isMarked (c .skip)) (flowAt rom (c .pc)) t) (stays chip rom signals m a) (record { answered = refl; path = stood (eqb (c .standby) HALT) })
     advanced false a = either a (isMarked (c .skip)) refl
 
-    pub stepped : allInRange chip rom m input ≡ true → Fair (isMarked (c .skip)) (flowAt rom (c .pc)) t (stepOf chip rom input m)
-    stepped a = rw (step-advances chip rom input m a) (advanced (isStanding m && eqb (input .release) 0) refl)
+    pub stepped : allInRange chip rom m signals ≡ true → Fair (isMarked (c .skip)) (flowAt rom (c .pc)) t (stepOf chip rom signals m)
+    stepped a = rw (step-advances chip rom signals m a) (advanced (waits chip rom signals m) refl)

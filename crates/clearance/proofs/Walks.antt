@@ -6,9 +6,10 @@ use mathlib.Core.List.{List}
 use Prim.Native.Nat.{ℕ, zero, suc, _+_, _≤_}
 use native.Mathlib.Omega.{arith}
 use Rattle.memory.specs.Chip.{Chip}
-use Rattle.machine.specs.declared.Input.{Input}
+use Rattle.machine.specs.Signals.{Signals}
 use Rattle.machine.specs.declared.Machine.{Machine}
-use Rattle.cpu.specs.Cost.{costOf, nextCycles, plus, stepCost}
+use Rattle.cpu.specs.Cost.{costOf, plus, stepCost}
+use Rattle.cpu.specs.Cycles.{nextCycles}
 use Rattle.cpu.specs.Reply.{Reply, done, inStandby, refused, refusalOf, Step}
 use Rattle.cpu.specs.Run.{Run, afterStep, ended, runFrom}
 use Rattle.cpu.specs.Step.{isStanding, stepOf}
@@ -36,7 +37,7 @@ cost-of-going done stands cycles e = refl
 cost-of-going inStandby stands cycles e = absurd (false≢true e)
 cost-of-going (refused n) stands cycles e = absurd (false≢true e)
 
-module _ (chip : Chip) (rom : List ℕ) (i : Input) where
+module _ (chip : Chip) (rom : List ℕ) (i : Signals) where
   abbrev S : Machine → Step
   S m = stepOf chip rom i m
 

@@ -6,8 +6,8 @@ use mathlib.Core.List.{List}
 use Prim.Native.Nat.{ℕ, zero, suc, _+_}
 use Rattle.memory.specs.Chip.{Chip}
 use Rattle.machine.specs.Parts.{isMarked}
-use Rattle.machine.specs.Ranges.{inputInRange, budgetInRange}
-use Rattle.machine.specs.declared.Input.{Input}
+use Rattle.machine.specs.Ranges.{signalsInRange, budgetInRange}
+use Rattle.machine.specs.Signals.{Signals}
 use Rattle.machine.specs.declared.Machine.{Machine}
 use Rattle.control.specs.declared.Flow.{Flow}
 use Rattle.control.specs.declared.Flow.the-variants.{Onward, Skips, Branches, Calls, Returns, ReadsTable, StandsBy, ByAr, Refused}
@@ -21,15 +21,15 @@ pub data CallForm : Type 0 where
   byValue : CallForm
   inPlace : CallForm
 
--- "the single step and the counted run", each with its own inputs and budget
+-- "the single step and the counted run", each with its own inputs, the pulse among them (document 02, E4), and budget
 pub data HostCall : Type 0 where
-  step : CallForm → Input → HostCall
-  run : CallForm → Input → ℕ → HostCall
+  step : CallForm → Signals → HostCall
+  run : CallForm → Signals → ℕ → HostCall
 
 -- the call's own inputs and budget are in range
 abbrev pub ownInRange : HostCall → Bool
-ownInRange (step form i) = inputInRange i
-ownInRange (run form i budget) = inputInRange i && budgetInRange budget
+ownInRange (step form i) = signalsInRange i
+ownInRange (run form i budget) = signalsInRange i && budgetInRange budget
 
 -- CALLs, and RETs and RETSKs, among the words that ran
 pub record Tally : Type 0 where
@@ -47,7 +47,7 @@ counted (Branches to) t = t
 counted (Calls to) t = record { calls = t .calls + 1; returns = t .returns }
 counted (Returns skip) t = record { calls = t .calls; returns = t .returns + 1 }
 counted ReadsTable t = t
-counted StandsBy t = t
+counted (StandsBy rest) t = t
 counted (ByAr op) t = t
 counted (Refused n) t = t
 
@@ -59,7 +59,7 @@ afterReply (refused n) skipped f t = t
 
 module _ (chip : Chip) (rom : List ℕ) where
   -- the tally after a step
-  abbrev pub stepTally : Input → Machine → Tally → Tally
+  abbrev pub stepTally : Signals → Machine → Tally → Tally
   stepTally i m t = afterReply ((stepOf chip rom i m) .reply) (isMarked (m .control .skip)) (flowAt rom (m .control .pc)) t
 
   -- what a call answers, its refusal or 0, and the record that it returns or leaves; the same in each form
@@ -72,7 +72,7 @@ module _ (chip : Chip) (rom : List ℕ) where
   leftBy (run form i budget) m = (runOf chip rom i budget m) .machine
 
   -- the tally after so many completed steps of a run: each counts on the record that a run of the steps before it leaves
-  unfoldable pub runTally : Input → ℕ → Machine → Tally → Tally
+  unfoldable pub runTally : Signals → ℕ → Machine → Tally → Tally
   runTally i zero m t = t
   runTally i (suc k) m t = stepTally i ((runOf chip rom i k m) .machine) (runTally i k m t)
 

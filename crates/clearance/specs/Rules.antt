@@ -20,7 +20,7 @@ isReturnSkip (Branches to) = false
 isReturnSkip (Calls to) = false
 isReturnSkip (Returns skip) = skip
 isReturnSkip ReadsTable = false
-isReturnSkip StandsBy = false
+isReturnSkip (StandsBy rest) = false
 isReturnSkip (ByAr op) = false
 isReturnSkip (Refused n) = false
 
@@ -67,7 +67,7 @@ rule1 chip w e = cond (eqb w 0) (holds (chip .levels) e 0) true
 unfoldable pub rule2 : Chip → Entry → Bool
 rule2 chip e = proper (chip .levels) e
 
--- 3: an instruction, none of refusal 4, and no BR @AR, CALL @AR, PUSH AR or POP AR; MOVT only in a ROM of 1,024 words (AR has
+-- 3: an instruction, none of refusals 4 and 30, and no BR @AR, CALL @AR, PUSH AR or POP AR; MOVT only in a ROM of 1,024 words (AR has
 -- ten bits) and with a free level
 abbrev pub rule3 : Chip → List ℕ → Flow → Entry → Bool
 rule3 chip rom Onward e = true
@@ -76,7 +76,7 @@ rule3 chip rom (Branches to) e = true
 rule3 chip rom (Calls to) e = true
 rule3 chip rom (Returns skip) e = true
 rule3 chip rom ReadsTable e = eqb (length rom) (2 ^ 10) && atMost (chip .levels - 1) e
-rule3 chip rom StandsBy e = true
+rule3 chip rom (StandsBy rest) e = true
 rule3 chip rom (ByAr op) e = false
 rule3 chip rom (Refused n) e = false
 
@@ -89,7 +89,7 @@ asks4 chip w (Branches to) e = record { word = to; entry = e } ∷ []
 asks4 chip w (Calls to) e = record { word = nextOf chip w; entry = e } ∷ []
 asks4 chip w (Returns skip) e = []
 asks4 chip w ReadsTable e = record { word = nextOf chip w; entry = e } ∷ []
-asks4 chip w StandsBy e = record { word = nextOf chip w; entry = e } ∷ []
+asks4 chip w (StandsBy rest) e = record { word = nextOf chip w; entry = e } ∷ []
 asks4 chip w (ByAr op) e = []
 asks4 chip w (Refused n) e = []
 
@@ -111,7 +111,7 @@ module _ (chip : Chip) (rom sheet : List ℕ) where
   rule5 w (Calls to) e = atMost (chip .levels - 1) e && allMet chip rom sheet (asks5 w to e)
   rule5 w (Returns skip) e = true
   rule5 w ReadsTable e = true
-  rule5 w StandsBy e = true
+  rule5 w (StandsBy rest) e = true
   rule5 w (ByAr op) e = true
   rule5 w (Refused n) e = true
 
@@ -123,7 +123,7 @@ rule6 (Branches to) e = true
 rule6 (Calls to) e = true
 rule6 (Returns skip) e = atLeast 1 e
 rule6 ReadsTable e = true
-rule6 StandsBy e = true
+rule6 (StandsBy rest) e = true
 rule6 (ByAr op) e = true
 rule6 (Refused n) e = true
 

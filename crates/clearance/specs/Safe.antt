@@ -11,7 +11,7 @@ use lib.ListN.{length}
 use Rattle.memory.specs.Chip.{Chip}
 use Rattle.machine.specs.Parts.{resetMachine}
 use Rattle.cpu.specs.Run.{runOf}
-use Rattle.machine.specs.declared.Input.{Input}
+use Rattle.machine.specs.Signals.{Signals}
 use Rattle.machine.specs.declared.Machine.{Machine}
 use Rattle.clearance.specs.Calls.{HostCall, step, run, ownInRange, Tally, noCalls, runTally, refusalAt, leftBy, tallyAfter}
 use Rattle.sheet.specs.Entry.{entryAt, holds}
@@ -30,8 +30,8 @@ module _ (chip : Chip) (rom sheet : List ℕ) where
     pub onlyOne : (refusalAt chip rom c m ≡ 0) ⊎ (refusalAt chip rom c m ≡ 1)
 
   -- before every step inside a run, and after its last: however many steps it has completed, the record is the one that a
-  -- run of so many steps leaves
-  unfoldable pub Within : Input → ℕ → Machine → Tally → Type 0
+  -- run of so many steps leaves. A run that begins in HALT completes none and moves the timer: its record is the next moment's
+  unfoldable pub Within : Signals → ℕ → Machine → Tally → Type 0
   Within i budget m t =
       (k : ℕ) → k ≤ (runOf chip rom i budget m) .count .steps → Moment ((runOf chip rom i k m) .machine) (runTally chip rom i k m t)
 

@@ -47,6 +47,6 @@ module _ (chip : Chip) (c : Control) where
   keeps (Calls to) holds ar = reached to (callOf chip to c) (full (jumpTo to (pushed (nextOf chip (c .pc)) c)))
   keeps (Returns skip) holds ar = empty (withSkip skip (jumpTo (topOf c) (popped c)))
   keeps ReadsTable holds ar = full (onwards chip c)
-  keeps StandsBy holds ar = gone c _
+  keeps (StandsBy rest) holds ar = gone c _
   keeps (ByAr op) holds ar = by-ar op ar
   keeps (Refused n) holds ar = kept n c

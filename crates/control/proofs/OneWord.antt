@@ -11,6 +11,8 @@ use Rattle.laws.specs.Every.{every}
 use Rattle.laws.proofs.Every.{every-at, passed}
 use Rattle.isa.specs.Decode.{decodeOf, groupOf, entryOf, overview, columns}
 use Rattle.isa.proofs.Group.{sub-m, sub-x}
+use Rattle.peripherals.specs.Registers.{inFile, isControl}
+use Rattle.peripherals.specs.Table.{controlRegisters}
 use Rattle.control.specs.Flow.{decodedFlow, readsTable, wordFlow}
 use Rattle.control.specs.declared.Flow.{Flow}
 
@@ -53,5 +55,5 @@ module _ (is : Flow → Bool) (sub : ℕ) (one : One is sub) where
 
 -- MOVT
 pub movt : One readsTable 0b000_0001_0000
-unfolding decodeOf entryOf overview columns
+unfolding decodeOf entryOf overview columns inFile isControl controlRegisters
 movt = record { opcode = λ m x addr. tt; sub-word = tt; has = tt }

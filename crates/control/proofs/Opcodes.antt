@@ -32,10 +32,10 @@ groupFlow x m = decodedFlow (groupOf m x)
 
 -- the arms of opcode 7, the last one first: the columns, then those of any low nibble, then those of 0
 abbrev columnKeys : List (List ℕ)
-columnKeys = (0b0011 ∷ 0b1011 ∷ []) ∷ (0b0010 ∷ 0b1010 ∷ []) ∷ []
+columnKeys = (0b1011 ∷ []) ∷ (0b1010 ∷ []) ∷ (0b0011 ∷ []) ∷ (0b0010 ∷ []) ∷ []
 
 abbrev operandKeys : List (List ℕ)
-operandKeys = (0b010_1111 ∷ 0b011_1111 ∷ []) ∷ (0b000_0111 ∷ []) ∷ []
+operandKeys = (0b011_1111 ∷ []) ∷ (0b010_1111 ∷ []) ∷ (0b000_0111 ∷ []) ∷ []
 
 abbrev fixedKeys : List (List ℕ)
 fixedKeys =

@@ -8,6 +8,9 @@ use Rattle.laws.specs.Bit.{bit}
 use Rattle.laws.specs.Wrap.{wrapNext}
 use Rattle.memory.specs.Chip.{Chip}
 use Rattle.machine.specs.declared.Control.{Control}
+use Rattle.machine.specs.Parts.{HALT, STOP}
+use Rattle.control.specs.declared.Rest.{Rest}
+use Rattle.control.specs.declared.Rest.the-variants.{Halt, Stop}
 use Rattle.control.specs.declared.ArOp.{ArOp}
 use Rattle.control.specs.declared.ArOp.the-variants as ar
 use Rattle.control.specs.declared.Flow.{Flow}
@@ -35,6 +38,11 @@ withSkip skip c = record { pc = c .pc; stack = c .stack; levels = c .levels; ski
 -- the standby mark
 abbrev pub withStandby : ℕ → Control → Control
 withStandby mark c = record { pc = c .pc; stack = c .stack; levels = c .levels; skip = c .skip; standby = mark }
+
+-- the standby mark tells HALT and STOP apart (document 02, E4)
+abbrev pub markOf : Rest → ℕ
+markOf Halt = HALT
+markOf Stop = STOP
 
 -- one level more, with an address on it
 abbrev pub pushed : ℕ → Control → Control
@@ -88,9 +96,9 @@ module _ (chip : Chip) where
   unfoldable pub tableOf : Control → Transfer
   tableOf c = unlessFull c (onwards c)
 
-  -- "HALT and STOP move PC on and set standing"
-  unfoldable pub standbyOf : Control → Transfer
-  standbyOf c = goes (withStandby 1 (onwards c))
+  -- "HALT and STOP move PC on and set standing", each its own mark
+  unfoldable pub standbyOf : ℕ → Control → Transfer
+  standbyOf mark c = goes (withStandby mark (onwards c))
 
   -- PUSH AR
   unfoldable pub pushOf : ℕ → Control → Transfer
@@ -115,6 +123,6 @@ module _ (chip : Chip) where
   controlOf (Calls to) holds ar c = inReach to c (callOf to c)
   controlOf (Returns skip) holds ar c = returnOf skip c
   controlOf ReadsTable holds ar c = tableOf c
-  controlOf StandsBy holds ar c = standbyOf c
+  controlOf (StandsBy rest) holds ar c = standbyOf (markOf rest) c
   controlOf (ByAr op) holds ar c = byArOf op ar c
   controlOf (Refused n) holds ar c = refusedControl n c

@@ -23,6 +23,12 @@ pub enum ArOp {
     Pop,
 }
 
+// HALT and STOP.
+pub enum Rest {
+    Halt,
+    Stop,
+}
+
 // Where control goes after an instruction, whatever the data.
 pub enum Flow {
     // To the next word.
@@ -36,9 +42,9 @@ pub enum Flow {
     // A table reference, then the next word.
     ReadsTable,
     // To the next word, and in standby.
-    StandsBy,
+    StandsBy(Rest),
     ByAr(ArOp),
-    // The word is no instruction, or one that is not supported: the refusal's number.
+    // The word is no instruction, or one that is not supported, or there is no such register: the refusal's number.
     Refused(u8),
 }
 
@@ -75,15 +81,15 @@ pub fn onward(regs: Regs, skips: bool) -> Regs
     }
 }
 
-// HALT and STOP.
-pub fn stand(regs: Regs) -> Regs
-    ensures { λ r. ⌜ ((stack : List ℕ) → goes (withStack stack r) ≡ standbyOf upd17132 (withStack stack regs)) ⌝ }
+// HALT and STOP, each with its mark.
+pub fn stand(regs: Regs, mark: u8) -> Regs
+    ensures { λ r. ⌜ ((stack : List ℕ) → goes (withStack stack r) ≡ standbyOf upd17132 mark (withStack stack regs)) ⌝ }
 {
     Regs {
         pc: next(regs.pc),
         levels: regs.levels,
         skip: regs.skip,
-        standby: 1,
+        standby: mark,
     }
 }
 

@@ -4,15 +4,30 @@
 ghost use mathlib.Core.Path.{_≡_};
 ghost use Prim.Native.Nat.{_/_, _%_};
 ghost use Rattle.isa.specs.Decode.{groupOf};
-ghost use Rattle.control.specs.Flow.{decodedFlow, readsTable, wordFlow};
+ghost use Rattle.control.specs.Flow.{decodedFlow, onwardIf, readsTable, wordFlow};
 use crate::ArOp;
 use crate::Flow;
+use crate::Rest;
+use peripherals::Peripherals;
 
 // Refusal 3: the word is no instruction.
 const NO_INSTRUCTION: u8 = 3;
 
-// Refusal 4: EI, DI, RETI, PEEK, POKE, GET, PUT.
+// Refusal 4: EI, DI, RETI.
 const UNSUPPORTED: u8 = 4;
+
+// Refusal 30: no such control register or peripheral.
+const NO_REGISTER: u8 = 30;
+
+// PEEK, POKE, GET and PUT, where there is such a register.
+fn onward_if(there: bool) -> Flow
+    ensures { λ r. ⌜ r ≡ onwardIf there ⌝ }
+{
+    if there {
+        return Flow::Onward;
+    }
+    Flow::Refused(NO_REGISTER)
+}
 
 // The words of opcode 7. POKE, PUT, PEEK and GET have their column alone fixed; RORC, STOP and HALT leave the low nibble to their
 // operand, and of the others it is 0.
@@ -20,14 +35,20 @@ fn of_group(word: u16) -> Flow
     ensures { λ r. ⌜ r ≡ decodedFlow (groupOf (word / 16 % 128) (word % 16)) ⌝ }
 {
     let m = word / 16 % 128;
+    let operand = (m / 16 * 16 + word % 16) as u8;
     match m % 16 {
-        0b0010 | 0b1010 => Flow::Refused(UNSUPPORTED),
-        0b0011 | 0b1011 => Flow::Refused(UNSUPPORTED),
+        // POKE, PEEK
+        0b0010 => onward_if(peripherals::in_file(operand)),
+        0b0011 => onward_if(peripherals::in_file(operand)),
+        // PUT, GET
+        0b1010 => onward_if(operand == Peripherals::TMM),
+        0b1011 => onward_if(operand == Peripherals::TMC),
         _ => match m {
             // RORC
             0b000_0111 => Flow::Onward,
             // STOP, HALT
-            0b010_1111 | 0b011_1111 => Flow::StandsBy,
+            0b010_1111 => Flow::StandsBy(Rest::Stop),
+            0b011_1111 => Flow::StandsBy(Rest::Halt),
             _ => {
                 if word % 16 != 0 {
                     return Flow::Refused(NO_INSTRUCTION);

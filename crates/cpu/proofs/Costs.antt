@@ -7,7 +7,8 @@ use native.Mathlib.Nat.{add-zero, zero-add, add-assoc}
 use native.Mathlib.Omega.{arith}
 use Rattle.machine.specs.Parts.{isMarked}
 use Rattle.control.specs.Flow.{readsTable, wordFlow}
-use Rattle.cpu.specs.Cost.{cyclesOf, costOf, none, plus}
+use Rattle.cpu.specs.Cost.{costOf, none, plus}
+use Rattle.cpu.specs.Cycles.{cyclesOf}
 use Rattle.cpu.specs.Reply.{Reply, done, inStandby, refused}
 use Rattle.cpu.specs.declared.Count.{Count}
 
@@ -29,6 +30,13 @@ cycles-some word skip = two-or-one (not (isMarked skip) && readsTable (wordFlow 
 
 pub cycles-few : (word skip : ℕ) → cyclesOf word skip ≤ 2
 cycles-few word skip = two-or-one (not (isMarked skip) && readsTable (wordFlow word)) .1
+
+-- a word that is passed over, and one that is run
+pub skipped-cycles : (word skip : ℕ) → isMarked skip ≡ true → 1 ≡ cyclesOf word skip
+skipped-cycles word skip e = rw e
+
+pub run-cycles : (word skip : ℕ) → isMarked skip ≡ false → cond (readsTable (wordFlow word)) 2 1 ≡ cyclesOf word skip
+run-cycles word skip e = rw e
 
 -- a step counts for one at most, and for two cycles
 pub cost-below : (r : Reply) (cycles : ℕ) → costOf cycles r .steps ≤ 1

@@ -46,7 +46,7 @@ module _ (chip : Chip) (small : chip .levels ≤ places) where
     pub levels : c .levels ≤ chip .levels
     pub each : (k : ℕ) → k < places → Level (ltb k (c .levels)) (getD (c .stack) k 0)
     pub skip : c .skip ≤ 1
-    pub standby : c .standby ≤ 1
+    pub standby : c .standby ≤ 2
 
   pub fine : (c : Control) → controlInRange chip c ≡ true → marksInRange c ≡ true → Fine c
   fine c e m =
@@ -62,7 +62,7 @@ module _ (chip : Chip) (small : chip .levels ≤ places) where
 
   pub marks-in-range : (c : Control) → Fine c → marksInRange c ≡ true
   unfolding marksInRange
-  marks-in-range c f = rw (le-leb (c .skip) 1 (f .skip), le-leb (c .standby) 1 (f .standby))
+  marks-in-range c f = rw (le-leb (c .skip) 1 (f .skip), le-leb (c .standby) 2 (f .standby))
 
   pub jumped : (to : ℕ) (c : Control) → to < bound → Fine c → Fine (jumpTo to c)
   jumped to c h f = record { pc = h; levels = f .levels; each = f .each; skip = f .skip; standby = f .standby }
@@ -73,7 +73,7 @@ module _ (chip : Chip) (small : chip .levels ≤ places) where
   pub with-skip : (skip : Bool) (c : Control) → Fine c → Fine (withSkip skip c)
   with-skip skip c f = record { pc = f .pc; levels = f .levels; each = f .each; skip = bit-below skip; standby = f .standby }
 
-  pub with-standby : (mark : ℕ) (c : Control) → mark ≤ 1 → Fine c → Fine (withStandby mark c)
+  pub with-standby : (mark : ℕ) (c : Control) → mark ≤ 2 → Fine c → Fine (withStandby mark c)
   with-standby mark c h f = record { pc = f .pc; levels = f .levels; each = f .each; skip = f .skip; standby = h }
 
   pushed-level : (stack : List ℕ) (n a k : ℕ) (below here inside : Bool) → ltb k n ≡ below → eqb k n ≡ here

@@ -6,5 +6,6 @@ pub mod ArFits
 pub mod Costs
 pub mod Turns
 pub mod Loop
+pub mod Paced
 pub mod Settled
 pub mod Promises

@@ -15,29 +15,48 @@ use Rattle.laws.proofs.Booleans.{either}
 use Rattle.laws.proofs.Wrap.{wrap-below}
 use Rattle.memory.specs.Chip.{Chip}
 use Rattle.memory.specs.Range.{cellsInRange}
-use Rattle.memory.specs.Registers.{arOf}
+use Rattle.memory.specs.Registers.{arOf, windowOf, lowByteOf}
 use Rattle.memory.proofs.Writes.{ranged}
-use Rattle.machine.specs.Parts.{isMarked, cellsOf, machineOf}
+use Rattle.peripherals.specs.Range.{peripheralsInRange}
+use Rattle.peripherals.specs.declared.Peripherals.{Peripherals}
+use Rattle.peripherals.proofs.Ticks.{tick-laws}
+use Rattle.peripherals.proofs.Writes.{peripheral-laws}
+use Rattle.machine.specs.Parts.{isMarked, cellsOf, machineOf, HALT}
 use Rattle.machine.specs.Ranges.{places, machineInRange, allInRange}
 use Rattle.machine.specs.declared.Control.{Control}
-use Rattle.machine.specs.declared.Input.{Input}
+use Rattle.machine.specs.Signals.{Signals}
 use Rattle.machine.specs.declared.Machine.{Machine}
-use Rattle.control.specs.Control.{Transfer, goes, refusedControl, jumpTo, withSkip, withStandby, pushed as pushedOf, popped as poppedOf, topOf, nextOf, onwards, unlessFull, unlessEmpty, byArOf, controlOf, branchOf, callOf, returnOf, pushOf, popOf, tableOf, standbyOf, onwardOf}
+use Rattle.control.specs.Control.{Transfer, goes, refusedControl, jumpTo, markOf, withSkip, withStandby, pushed as pushedOf, popped as poppedOf, topOf, nextOf, onwards, unlessFull, unlessEmpty, byArOf, controlOf, branchOf, callOf, returnOf, pushOf, popOf, tableOf, standbyOf, onwardOf}
 use Rattle.control.specs.Flow.{flowOf}
+use Rattle.control.specs.declared.Rest.{Rest}
+use Rattle.control.specs.declared.Rest.the-variants.{Halt, Stop}
 use Rattle.control.specs.declared.ArOp.{ArOp}
 use Rattle.control.specs.declared.ArOp.the-variants as code
 use Rattle.control.specs.declared.Flow.{Flow}
 use Rattle.control.specs.declared.Flow.the-variants.{Onward, Skips, Branches, Calls, Returns, ReadsTable, StandsBy, ByAr, Refused}
+use Rattle.operations.proofs.Sets.{sets}
+use Rattle.operations.specs.Settings.{settingsOf}
 use Rattle.operations.specs.Writes.{holdsOf, writesOf}
-use Rattle.cpu.specs.Execute.{dataOf, pastTable, writtenOf, transferBy, executeOf}
+use Rattle.cpu.specs.Execute.{dataOf, sourcesOf, setOf, pastTable, writtenOf, transferBy, executeOf}
+use Rattle.cpu.specs.Cycles.{nextCycles}
 use Rattle.cpu.specs.Reply.{Reply, done, inStandby, refused, Step, completedStep, standingStep, refusedStep}
-use Rattle.cpu.specs.Step.{isStanding, woken, unlessRefused, decodedOf, passOver, fetchOf, advanceOf, stepOf}
+use Rattle.cpu.specs.Step.{isStanding, waits, tickedBy, stoodBy, woken, unlessRefused, decodedOf, passOver, fetchOf, advanceOf, stepOf}
 use Rattle.cpu.proofs.RangeParts.{machine-parts}
 use Rattle.cpu.proofs.Levels.{Fine, fine, in-range, marks-in-range, jumped, went-on, with-skip, with-standby, pushed, popped, top-below}
 
 -- what AR holds can be an address, in cells that are in range
 abbrev pub ArFits : Chip → Type 0
 ArFits chip = (cells : List ℕ) → cellsInRange chip cells ≡ true → arOf cells < 2 ^ chip .pcBits
+
+mark-below : (rest : Rest) → markOf rest ≤ 2
+mark-below Halt = lit≤ tt
+mark-below Stop = lit≤ tt
+
+-- what an instruction sets keeps the peripherals in range
+set-in-range : (cells : List ℕ) (p : Peripherals) (i : Instruction) → peripheralsInRange p ≡ true → peripheralsInRange (settingsOf cells p i) ≡ true
+set-in-range cells p i h =
+    sets cells p (λ (i : Instruction) (x : Peripherals). peripheralsInRange x ≡ true) (λ i. h)
+    (λ rf. peripheral-laws p .poked rf (windowOf cells) h) (λ at. peripheral-laws p .put (lowByteOf cells) (omega arith) h) i
 
 module _ (chip : Chip) (small : chip .levels ≤ places) where
   -- the control after a change, refused or not
@@ -98,20 +117,33 @@ module _ (chip : Chip) (small : chip .levels ≤ places) where
     shifted (Calls to) holds ar h = reach to (callOf chip to c) (called to) (leb (2 ^ chip .pcBits) to) refl
     shifted (Returns skip) holds ar h = returned skip
     shifted ReadsTable holds ar h = unless-full (onwards chip c) (λ l. went-on chip small c f)
-    shifted StandsBy holds ar h = with-standby chip small 1 (onwards chip c) (lit≤ tt) (went-on chip small c f)
+    shifted (StandsBy rest) holds ar h = with-standby chip small (markOf rest) (onwards chip c) (mark-below rest) (went-on chip small c f)
     shifted (ByAr op) holds ar h = by-ar op ar h
     shifted (Refused n) holds ar h = f
 
   abbrev R : Machine → Type 0
   R m = machineInRange chip m ≡ true
 
-  whole : (cells : List ℕ) (c : Control) → cellsInRange chip cells ≡ true → Fine chip small c → R (machineOf cells c)
+  whole : (cells : List ℕ) (p : Peripherals) (c : Control) → cellsInRange chip cells ≡ true → peripheralsInRange p ≡ true
+      → Fine chip small c → R (machineOf cells p c)
   unfolding machineInRange
-  whole cells c e f = rw (e, in-range chip small c f, marks-in-range chip small c f)
+  whole cells p c e h f = rw (e, h, in-range chip small c f, marks-in-range chip small c f)
 
-  -- the two parts of a machine in range
-  parts : (m : Machine) → R m → (cellsInRange chip (cellsOf m) ≡ true) × Fine chip small (m .control)
-  parts m r = let p = machine-parts chip m r in (p .0, fine chip small (m .control) (p .1 .0) (p .1 .1))
+  -- the three parts of a machine in range
+  pub record Parts (m : Machine) : Type 0 where
+    pub cells : cellsInRange chip (cellsOf m) ≡ true
+    pub peripherals : peripheralsInRange (m .peripherals) ≡ true
+    pub control : Fine chip small (m .control)
+
+  parts : (m : Machine) → R m → Parts m
+  parts m r =
+      let p = machine-parts chip m r in
+      record { cells = p .0; peripherals = p .1 .1 .1; control = fine chip small (m .control) (p .1 .0) (p .1 .1 .0) }
+
+  ticks : (cycles pulse : ℕ) (m : Machine) → R m → R (tickedBy cycles pulse m)
+  ticks cycles pulse m r =
+      let p = parts m r in
+      whole (cellsOf m) _ (m .control) (p .cells) (tick-laws (m .peripherals) cycles pulse .ranged (p .peripherals)) (p .control)
 
   -- the record that a step leaves is in range
   abbrev Ranged : Step → Type 0
@@ -122,49 +154,54 @@ module _ (chip : Chip) (small : chip .levels ≤ places) where
   left m after inStandby p q = q
   left m after (refused n) p q = p
 
-  module _ (fits : ArFits chip) (rom : List ℕ) (input : Input) where
-    executes : (i : Instruction) (m : Machine) → R m → R ((executeOf chip rom input i m) .machine)
+  module _ (fits : ArFits chip) (rom : List ℕ) (signals : Signals) where
+    executes : (i : Instruction) (m : Machine) → R m → R ((executeOf chip rom signals i m) .machine)
     unfolding executeOf transferBy writtenOf
     executes i m r =
         let p = parts m r in
-        let t : Transfer = transferBy chip rom input i m in
-        let after : Machine = machineOf (writtenOf chip rom input i m) (t .control) in
-        let ws = writesOf chip (dataOf m input) i (topOf (m .control)) (getD rom (arOf (cellsOf m)) 0) in
+        let t : Transfer = transferBy chip rom signals i m in
+        let after : Machine = machineOf (writtenOf chip rom signals i m) (setOf chip rom signals i m) (t .control) in
+        let ws = writesOf chip (dataOf m signals) i (sourcesOf rom m) in
         let past : Bool = pastTable rom (arOf (cellsOf m)) (flowOf i) in
         either Ranged (eqb (t .refusal) 0)
         (cond past (refusedStep 8 m) (completedStep after)) (refusedStep (t .refusal) m)
         (either Ranged past (refusedStep 8 m) (completedStep after) r
-        (whole (writtenOf chip rom input i m) (t .control) (ranged chip ws (cellsOf m) (p .0))
-        (shifted (m .control) (p .1) (flowOf i) (holdsOf chip (dataOf m input) i) (arOf (cellsOf m)) (fits (cellsOf m) (p .0)))))
+        (whole (writtenOf chip rom signals i m) _ (t .control) (ranged chip ws (cellsOf m) (p .cells))
+        (set-in-range (cellsOf m) (m .peripherals) i (p .peripherals))
+        (shifted (m .control) (p .control) (flowOf i) (holdsOf chip (dataOf m signals) i) (arOf (cellsOf m)) (fits (cellsOf m) (p .cells)))))
         r
 
-    decodes : (m : Machine) (d : Decoding) → R m → R ((decodedOf chip rom input m d) .machine)
+    decodes : (m : Machine) (d : Decoding) → R m → R ((decodedOf chip rom signals m d) .machine)
     decodes m (is i) r = executes i m r
     decodes m (refusedWord n) r = r
 
-    over : (m : Machine) → R m → R ((passOver chip rom input m) .machine)
+    over : (m : Machine) → R m → R ((passOver chip rom signals m) .machine)
     over m r =
         let p = parts m r in
-        whole (cellsOf m) _ (p .0) (with-skip chip small false (onwards chip (m .control)) (went-on chip small (m .control) (p .1)))
+        whole (cellsOf m) _ _ (p .cells) (p .peripherals)
+        (with-skip chip small false (onwards chip (m .control)) (went-on chip small (m .control) (p .control)))
 
-    fetches : (m : Machine) → R m → R ((fetchOf chip rom input m) .machine)
+    fetches : (m : Machine) → R m → R ((fetchOf chip rom signals m) .machine)
     unfolding fetchOf
     fetches m r =
         let word = decodeOf (getD rom (m .control .pc) 0) in
-        let d = decodedOf chip rom input m word in
+        let d = decodedOf chip rom signals m word in
         let skip : Bool = isMarked (m .control .skip) in
-        either Ranged (leb (length rom) (m .control .pc)) (refusedStep 2 m) (cond skip (passOver chip rom input m) d) r
-        (either Ranged skip (passOver chip rom input m) d (over m r) (decodes m word r))
+        either Ranged (leb (length rom) (m .control .pc)) (refusedStep 2 m) (cond skip (passOver chip rom signals m) d) r
+        (either Ranged skip (passOver chip rom signals m) d (over m r) (decodes m word r))
 
-    pub advances : (m : Machine) → R m → R ((advanceOf chip rom input m) .machine)
+    pub advances : (m : Machine) → R m → R ((advanceOf chip rom signals m) .machine)
     unfolding advanceOf
     advances m r =
         let p = parts m r in
-        let w : R (woken m) = whole (cellsOf m) _ (p .0) (with-standby chip small 0 (m .control) (lit≤ tt) (p .1)) in
-        let s = fetchOf chip rom input (woken m) in
-        either Ranged (isStanding m && eqb (input .release) 0) (standingStep m)
-        (unlessRefused m (s .machine) (s .reply)) r (left m (s .machine) (s .reply) r (fetches (woken m) w))
+        let w : R (woken m) = whole (cellsOf m) _ _ (p .cells) (p .peripherals) (with-standby chip small 0 (m .control) (lit≤ tt) (p .control)) in
+        let s = fetchOf chip rom signals (woken m) in
+        let after : Machine = tickedBy (nextCycles rom m) (signals .pulse) (s .machine) in
+        let stood : Machine = stoodBy (signals .pulse) m in
+        either Ranged (waits chip rom signals m) (standingStep stood) (unlessRefused m after (s .reply))
+        (either R (eqb (m .control .standby) HALT) (tickedBy 1 (signals .pulse) m) m (ticks 1 (signals .pulse) m r) r)
+        (left m after (s .reply) r (ticks (nextCycles rom m) (signals .pulse) (s .machine) (fetches (woken m) w)))
 
-    pub steps : (m : Machine) → R m → R ((stepOf chip rom input m) .machine)
+    pub steps : (m : Machine) → R m → R ((stepOf chip rom signals m) .machine)
     unfolding stepOf
-    steps m r = either Ranged (allInRange chip rom m input) (advanceOf chip rom input m) (refusedStep 1 m) (advances m r) r
+    steps m r = either Ranged (allInRange chip rom m signals) (advanceOf chip rom signals m) (refusedStep 1 m) (advances m r) r

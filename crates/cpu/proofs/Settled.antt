@@ -14,10 +14,11 @@ use Rattle.memory.specs.Write.{writesApplied}
 use Rattle.machine.specs.Parts.{machineOf}
 use Rattle.machine.specs.Refusals.{numberOf}
 use Rattle.machine.specs.declared.Control.{Control}
-use Rattle.machine.specs.declared.Input.{Input}
+use Rattle.machine.specs.Signals.{Signals}
+use Rattle.peripherals.specs.declared.Peripherals.{Peripherals}
 use Rattle.machine.specs.declared.Machine.{Machine}
 use Rattle.machine.specs.declared.Refusal.{Refusal}
-use Rattle.machine.specs.declared.Refusal.the-variants.{OutOfRange, PastRom, NoInstruction, Unsupported, BadTarget, StackFull, StackEmpty, PastTable}
+use Rattle.machine.specs.declared.Refusal.the-variants.{OutOfRange, PastRom, NoInstruction, Unsupported, NoRegister, BadTarget, StackFull, StackEmpty, PastTable}
 use Rattle.control.specs.Control.{Transfer, goes, refusedControl, topOf}
 use Rattle.control.specs.Flow.{flowOf}
 use Rattle.control.specs.Transfers.{transferOf, withStack}
@@ -27,9 +28,10 @@ use Rattle.control.specs.declared.Transfer.the-variants.{To, Refused}
 use Rattle.control.proofs.Keeps.{Keeps, keeps}
 use Rattle.operations.specs.Data.{Data}
 use Rattle.operations.specs.Operands.{addressesOf}
+use Rattle.operations.specs.Settings.{settingsOf}
 use Rattle.operations.specs.Writes.{holdsAt, holdsOf, writesAt, writesOf}
 use Rattle.operations.specs.declared.Addresses.{Addresses}
-use Rattle.cpu.specs.Execute.{executeOf, writtenOf, transferBy, pastTable, dataOf}
+use Rattle.cpu.specs.Execute.{executeOf, writtenOf, transferBy, pastTable, dataOf, sourcesOf}
 use Rattle.cpu.specs.Joined.{executedOf, wholeOf}
 use Rattle.cpu.specs.Reply.{completedStep, refusedStep}
 
@@ -38,6 +40,7 @@ number-not-0 OutOfRange = refl
 number-not-0 PastRom = refl
 number-not-0 NoInstruction = refl
 number-not-0 Unsupported = refl
+number-not-0 NoRegister = refl
 number-not-0 BadTarget = refl
 number-not-0 StackFull = refl
 number-not-0 StackEmpty = refl
@@ -48,55 +51,55 @@ pub told : (chip : Chip) (d : Data) (i : Instruction) (a : Addresses) → a ≡ 
 unfolding holdsOf
 told chip d i a found = rw (← found)
 
-module _ (chip : Chip) (rom : List ℕ) (input : Input) (cells stack : List ℕ) (regs : Regs) (i : Instruction) where
+module _ (chip : Chip) (rom : List ℕ) (signals : Signals) (cells stack : List ℕ) (p : Peripherals) (regs : Regs) (i : Instruction) where
   abbrev before : Machine
-  before = wholeOf cells stack regs
+  before = wholeOf cells stack p regs
 
   abbrev shift : Transfer
-  shift = transferBy chip rom input i before
+  shift = transferBy chip rom signals i before
 
   -- the writes at the addresses that were found
-  module _ (a : Addresses) (found : a ≡ addressesOf chip (dataOf before input) i) where
+  module _ (a : Addresses) (found : a ≡ addressesOf chip (dataOf before signals) i) where
     pub written : (after : List ℕ)
-        → after ≡ writesApplied chip cells (writesAt chip (dataOf before input) a i (topOf (withStack stack regs)) (getD rom (arOf cells) 0))
-        → after ≡ writtenOf chip rom input i before
+        → after ≡ writesApplied chip cells (writesAt chip (dataOf before signals) a i (sourcesOf rom before))
+        → after ≡ writtenOf chip rom signals i before
     unfolding writtenOf writesOf
     written after e = rw (← found) e
 
   -- control goes on, and no table is missed
   pub completes : (after left : List ℕ) (r : Regs) → goes (withStack left r) ≡ shift → pastTable rom (arOf cells) (flowOf i) ≡ false
-      → after ≡ writtenOf chip rom input i before → completedStep (wholeOf after left r) ≡ executeOf chip rom input i before
+      → after ≡ writtenOf chip rom signals i before → completedStep (wholeOf after left (settingsOf cells p i) r) ≡ executeOf chip rom signals i before
   unfolding executeOf
   completes after left r e t h = rw (← e, t, h)
 
   -- control goes on, and the table is missed
   pub misses : (left : List ℕ) (r : Regs) → goes (withStack left r) ≡ shift → pastTable rom (arOf cells) (flowOf i) ≡ true
-      → refusedStep 8 before ≡ executeOf chip rom input i before
+      → refusedStep 8 before ≡ executeOf chip rom signals i before
   unfolding executeOf
   misses left r e t = rw (← e, t)
 
   kept : Keeps (withStack stack regs) shift
   unfolding transferBy
-  kept = keeps chip (withStack stack regs) (flowOf i) (holdsOf chip (dataOf before input) i) (arOf cells)
+  kept = keeps chip (withStack stack regs) (flowOf i) (holdsOf chip (dataOf before signals) i) (arOf cells)
 
   pub refuses : (q : Refusal) (left : List ℕ) → refusedControl (numberOf q) (withStack left regs) ≡ shift
-      → refusedStep (numberOf q) (wholeOf cells left regs) ≡ executeOf chip rom input i before
+      → refusedStep (numberOf q) (wholeOf cells left p regs) ≡ executeOf chip rom signals i before
   unfolding executeOf
   refuses q left e =
       let k : Keeps (withStack stack regs) (refusedControl (numberOf q) (withStack left regs))
       = subst (Keeps (withStack stack regs)) (sym e) kept in
-      rw (← e, number-not-0 q) (ap (λ (c : Control). refusedStep (numberOf q) (machineOf cells c)) (k (number-not-0 q)))
+      rw (← e, number-not-0 q) (ap (λ (c : Control). refusedStep (numberOf q) (machineOf cells p c)) (k (number-not-0 q)))
 
   -- an instruction that writes no cell
   pub moves : (q : code.Transfer) (left : List ℕ) → transferOf left regs q ≡ shift → pastTable rom (arOf cells) (flowOf i) ≡ false
-      → cells ≡ writtenOf chip rom input i before → executedOf cells left regs q ≡ executeOf chip rom input i before
+      → cells ≡ writtenOf chip rom signals i before → executedOf cells left (settingsOf cells p i) p regs q ≡ executeOf chip rom signals i before
   moves (To r) left e t h = completes cells left r e t h
   moves (Refused q) left e t h = refuses q left e
 
   -- an instruction that control is known not to refuse
   pub passes : (q : code.Transfer) (after left : List ℕ) → transferOf left regs q ≡ shift → eqb (shift .refusal) 0 ≡ true
-      → pastTable rom (arOf cells) (flowOf i) ≡ false → after ≡ writtenOf chip rom input i before
-      → executedOf after left regs q ≡ executeOf chip rom input i before
+      → pastTable rom (arOf cells) (flowOf i) ≡ false → after ≡ writtenOf chip rom signals i before
+      → executedOf after left (settingsOf cells p i) p regs q ≡ executeOf chip rom signals i before
   passes (To r) after left e p t h = completes after left r e t h
   passes (Refused q) after left e p t h =
       let n : eqb (numberOf q) 0 ≡ true = ap (λ (s : Transfer). eqb (s .refusal) 0) e ∙ p in

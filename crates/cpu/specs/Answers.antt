@@ -30,7 +30,7 @@ stepOfStepped s = record { reply = replyOf (s .answer); machine = s .machine }
 
 -- the same where the cells stand apart
 abbrev pub reachedStep : List ℕ → Reached → Step
-reachedStep cells r = record { reply = replyOf (r .answer); machine = machineOf cells (r .control) }
+reachedStep cells r = record { reply = replyOf (r .answer); machine = machineOf cells (r .peripherals) (r .control) }
 
 -- the refusal that a run ended with, 0 for none
 abbrev pub endOf : End → ℕ

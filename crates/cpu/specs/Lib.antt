@@ -1,5 +1,6 @@
 pub mod Reply
 pub mod Execute
+pub mod Cycles
 pub mod Step
 pub mod Cost
 pub mod Run

@@ -3,18 +3,24 @@ ghost use mathlib.Core.Path.{_≡_};
 ghost use mathlib.Core.List.{List};
 ghost use Prim.Native.Nat.{ℕ};
 ghost use Rattle.memory.specs.Chip.{upd17132};
-ghost use Rattle.cpu.specs.Joined.{executedOf, inputAt, wholeOf};
+ghost use Rattle.machine.specs.Signals.{Signals};
+ghost use Rattle.peripherals.specs.Parts.{withTimer};
+ghost use Rattle.peripherals.specs.declared.Peripherals.{Peripherals as Parts};
+ghost use Rattle.operations.specs.Settings.{settingsOf};
+ghost use Rattle.cpu.specs.Joined.{executedOf, signalsAt, wholeOf};
 ghost use Rattle.cpu.specs.Execute.{executeOf};
 use control::Regs;
 use control::Transfer;
 use isa::FixedOp;
 use isa::Instruction;
-use machine::Input;
+use machine::Machine;
 use machine::Refusal;
+use peripherals::Peripherals;
+use peripherals::Timer;
 
 // MOVT: refusal 6 comes before 8.
 fn movt(rom: &[u16], cells: &mut [u8; 128], regs: Regs) -> Transfer
-    ensures { λ r. ⌜ ((input : Input) (stack : List ℕ) → executedOf (now (cells .exit)) stack regs r ≡ executeOf upd17132 (now (rom .entry)) input (Instruction.Fixed FixedOp.Movt) (wholeOf (now (cells .entry)) stack regs)) ⌝ }
+    ensures { λ r. ⌜ ((signals : Signals) (p : Parts) (stack : List ℕ) → executedOf (now (cells .exit)) stack p p regs r ≡ executeOf upd17132 (now (rom .entry)) signals (Instruction.Fixed FixedOp.Movt) (wholeOf (now (cells .entry)) stack p regs)) ⌝ }
 {
     let transfer = control::table(regs);
     let Transfer::To(next) = transfer else {
@@ -30,7 +36,7 @@ fn movt(rom: &[u16], cells: &mut [u8; 128], regs: Regs) -> Transfer
 
 // POP AR: the address on the highest open level goes to AR.
 fn pop_ar(cells: &mut [u8; 128], stack: &mut [u16; 5], regs: Regs) -> Transfer
-    ensures { λ r. ⌜ ((rom : List ℕ) (input : Input) → executedOf (now (cells .exit)) (now (stack .exit)) regs r ≡ executeOf upd17132 rom input (Instruction.Fixed FixedOp.PopAr) (wholeOf (now (cells .entry)) (now (stack .entry)) regs)) ⌝ }
+    ensures { λ r. ⌜ ((rom : List ℕ) (signals : Signals) (p : Parts) → executedOf (now (cells .exit)) (now (stack .exit)) p p regs r ≡ executeOf upd17132 rom signals (Instruction.Fixed FixedOp.PopAr) (wholeOf (now (cells .entry)) (now (stack .entry)) p regs)) ⌝ }
 {
     let top = control::top(&*stack, regs);
     let transfer = control::pop(stack, regs);
@@ -49,7 +55,7 @@ fn fixed(
     stack: &mut [u16; 5],
     regs: Regs,
 ) -> Transfer
-    ensures { λ r. ⌜ ((input : Input) → executedOf (now (cells .exit)) (now (stack .exit)) regs r ≡ executeOf upd17132 (now (rom .entry)) input (Instruction.Fixed op) (wholeOf (now (cells .entry)) (now (stack .entry)) regs)) ⌝ }
+    ensures { λ r. ⌜ ((signals : Signals) (p : Parts) → executedOf (now (cells .exit)) (now (stack .exit)) p p regs r ≡ executeOf upd17132 (now (rom .entry)) signals (Instruction.Fixed op) (wholeOf (now (cells .entry)) (now (stack .entry)) p regs)) ⌝ }
 {
     match op {
         FixedOp::IncAr => {
@@ -74,7 +80,7 @@ fn fixed(
     }
 }
 
-// An instruction.
+// An instruction, but for what it sets of the peripherals.
 pub(crate) fn execute(
     rom: &[u16],
     instruction: Instruction,
@@ -82,57 +88,81 @@ pub(crate) fn execute(
     stack: &mut [u16; 5],
     regs: Regs,
     pins: &[u8; 5],
-    directions: &[u8; 5],
+    registers: &[u8; 7],
+    timer: Timer,
 ) -> Transfer
-    ensures { λ r. ⌜ ((release : ℕ) → executedOf (now (cells .exit)) (now (stack .exit)) regs r ≡ executeOf upd17132 (now (rom .entry)) (inputAt (now (pins .entry)) (now (directions .entry)) release) instruction (wholeOf (now (cells .entry)) (now (stack .entry)) regs)) ⌝ }
+    ensures { λ r. ⌜ ((directions : List ℕ) (release pulse : ℕ) → executedOf (now (cells .exit)) (now (stack .exit)) (settingsOf (now (cells .entry)) (withTimer (now (registers .entry)) timer) instruction) (withTimer (now (registers .entry)) timer) regs r ≡ executeOf upd17132 (now (rom .entry)) (signalsAt (now (pins .entry)) directions release pulse) instruction (wholeOf (now (cells .entry)) (now (stack .entry)) (withTimer (now (registers .entry)) timer) regs)) ⌝ }
 {
-    let a = operations::locate(&*cells, pins, directions, instruction);
+    let a = operations::locate(&*cells, pins, registers, instruction);
     match instruction {
         Instruction::AluRegister { op, r: _, m: _ } => {
-            let b = memory::read(&*cells, pins, directions, a.from);
-            operations::operate(cells, pins, directions, op, a.to, b);
+            let b = operations::read(&*cells, pins, registers, a.from);
+            operations::operate(cells, pins, registers, op, a.to, b);
             return Transfer::To(control::onward(regs, false));
         }
         Instruction::AluImmediate { op, m: _, n4 } => {
-            operations::operate(cells, pins, directions, op, a.to, n4);
+            operations::operate(cells, pins, registers, op, a.to, n4);
             return Transfer::To(control::onward(regs, false));
         }
         Instruction::Skip { op, m: _, n4 } => {
-            let holds = operations::skip(cells, pins, directions, op, a.from, n4);
+            let holds = operations::skip(cells, pins, registers, op, a.from, n4);
             return Transfer::To(control::onward(regs, holds));
         }
         Instruction::Rorc(_) => {
-            operations::rorc(cells, pins, directions, a.to);
+            operations::rorc(cells, pins, registers, a.to);
             return Transfer::To(control::onward(regs, false));
         }
         Instruction::Ld { r: _, m: _ } => {
-            operations::transfer(cells, pins, directions, a);
+            operations::transfer(cells, pins, registers, a);
             return Transfer::To(control::onward(regs, false));
         }
         Instruction::St { m: _, r: _ } => {
-            operations::transfer(cells, pins, directions, a);
+            operations::transfer(cells, pins, registers, a);
             return Transfer::To(control::onward(regs, false));
         }
         Instruction::MovToIndirect { r: _, m: _ } => {
-            operations::transfer(cells, pins, directions, a);
+            operations::transfer(cells, pins, registers, a);
             return Transfer::To(control::onward(regs, false));
         }
         Instruction::MovFromIndirect { m: _, r: _ } => {
-            operations::transfer(cells, pins, directions, a);
+            operations::transfer(cells, pins, registers, a);
             return Transfer::To(control::onward(regs, false));
         }
         Instruction::MovImmediate { m: _, n4 } => {
             memory::store(cells, a.to, n4);
             return Transfer::To(control::onward(regs, false));
         }
-        Instruction::Peek(_) => return Transfer::Refused(Refusal::Unsupported),
-        Instruction::Poke(_) => return Transfer::Refused(Refusal::Unsupported),
-        Instruction::Get(_) => return Transfer::Refused(Refusal::Unsupported),
-        Instruction::Put(_) => return Transfer::Refused(Refusal::Unsupported),
+        Instruction::Peek(rf) => {
+            if !peripherals::in_file(rf) {
+                return Transfer::Refused(Refusal::NoRegister);
+            }
+            operations::peek(cells, pins, registers, rf);
+            return Transfer::To(control::onward(regs, false));
+        }
+        Instruction::Poke(rf) => {
+            if !peripherals::in_file(rf) {
+                return Transfer::Refused(Refusal::NoRegister);
+            }
+            operations::poke(cells, rf);
+            return Transfer::To(control::onward(regs, false));
+        }
+        Instruction::Get(p) => {
+            if p != Peripherals::TMC {
+                return Transfer::Refused(Refusal::NoRegister);
+            }
+            *cells = memory::write_low_byte(*cells, timer.counter);
+            return Transfer::To(control::onward(regs, false));
+        }
+        Instruction::Put(p) => {
+            if p != Peripherals::TMM {
+                return Transfer::Refused(Refusal::NoRegister);
+            }
+            return Transfer::To(control::onward(regs, false));
+        }
         Instruction::Br(addr) => return control::branch(regs, addr),
         Instruction::Call(addr) => return control::call_in_reach(stack, regs, addr),
-        Instruction::Stop(_) => return Transfer::To(control::stand(regs)),
-        Instruction::Halt(_) => return Transfer::To(control::stand(regs)),
+        Instruction::Stop(_) => return Transfer::To(control::stand(regs, Machine::STOP)),
+        Instruction::Halt(_) => return Transfer::To(control::stand(regs, Machine::HALT)),
         Instruction::Fixed(op) => return fixed(rom, op, cells, stack, regs),
     }
 }

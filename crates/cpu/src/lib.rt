@@ -5,9 +5,12 @@ mod stepping;
 
 ghost use mathlib.Core.Path.{_≡_};
 ghost use Rattle.cpu.specs.Answers.{endOf, replyNumber, replyOf};
+use control::Regs;
 use machine::Control;
 use machine::Machine;
 use machine::Refusal;
+use peripherals::Peripherals;
+use peripherals::Timer;
 pub use running::run;
 pub use running::step;
 pub use running::step_in_place;
@@ -15,7 +18,7 @@ pub use running::step_in_place;
 // What a step answers.
 pub enum Answer {
     Done,
-    // The machine stays in standby, and nothing has changed.
+    // The machine stays in standby: in STOP nothing has changed, in HALT the timer has moved.
     Standby,
     Refused(Refusal),
 }
@@ -43,6 +46,7 @@ pub struct Count {
 // What steps up to a refusal, standby or the budget leave beside the cells; how many of them were completed, with their cycles; and
 // the last one's answer.
 pub struct Reached {
+    pub peripherals: Peripherals,
     pub control: Control,
     pub count: Count,
     pub answer: Answer,
@@ -79,6 +83,17 @@ pub struct Ran {
     pub machine: Machine,
     pub count: Count,
     pub end: End,
+}
+
+// A step of a machine that does not stay in standby: where control goes, the timer before its cycles and how many these are, or why
+// it is refused.
+enum Advanced {
+    OnTo {
+        regs: Regs,
+        timer: Timer,
+        cycles: u8,
+    },
+    Stopped(Refusal),
 }
 
 // What a fetch finds.

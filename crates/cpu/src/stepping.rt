@@ -6,13 +6,17 @@ ghost use Prim.Native.Nat.{ℕ};
 ghost use lib.Dec.{eqb};
 ghost use lib.ListN.{getD};
 ghost use Rattle.memory.specs.Chip.{upd17132};
-ghost use Rattle.machine.specs.Parts.{isMarked, machineOf};
+ghost use Rattle.machine.specs.Parts.{HALT, isMarked, machineOf};
+ghost use Rattle.peripherals.specs.Pace.{Quiet};
+ghost use Rattle.peripherals.specs.Parts.{withTimer};
+ghost use Rattle.peripherals.specs.Timer.{tickOf};
 ghost use Rattle.control.specs.Control.{withStandby};
 ghost use Rattle.control.specs.Flow.{readsTable, wordFlow};
-ghost use Rattle.cpu.specs.Cost.{cyclesOf};
-ghost use Rattle.cpu.specs.Joined.{executedOf, fetchedOf, inputAt, wholeOf};
+ghost use Rattle.cpu.specs.Cycles.{cyclesOf};
+ghost use Rattle.cpu.specs.Joined.{StaysQuiet, TakesCycles, advancedOf, fetchedOf, signalsAt, wholeOf};
 ghost use Rattle.control.specs.Transfers.{withStack};
 ghost use Rattle.cpu.specs.Step.{advanceOf};
+use crate::Advanced;
 use crate::Fetched;
 use crate::execution::execute;
 use control::Regs;
@@ -22,6 +26,8 @@ use machine::Control;
 use machine::Machine;
 use machine::Refusal;
 use memory::Memory;
+use peripherals::Peripherals;
+use peripherals::Timer;
 
 // The word at an address.
 fn fetch(rom: &[u16], pc: u16) -> Fetched
@@ -35,24 +41,11 @@ fn fetch(rom: &[u16], pc: u16) -> Fetched
 }
 
 // MOVT takes two cycles, every other word one.
-fn word_cycles(word: u16) -> u32
+fn word_cycles(word: u16) -> u8
     ensures { λ r. ⌜ r ≡ cond (readsTable (wordFlow word)) 2 1 ⌝ }
 {
     if control::reads_table(word) {
         return 2;
-    }
-    1
-}
-
-// The cycles of the step at PC, where it is completed.
-pub(crate) fn cycles_at(rom: &[u16], regs: Regs) -> u32
-    ensures { λ r. ⌜ r ≡ cyclesOf (getD (now (rom .entry)) (regs .pc) 0) (regs .skip) ⌝ }
-{
-    let Fetched::Word(word) = fetch(rom, regs.pc) else {
-        return 1;
-    };
-    if regs.skip == 0 {
-        return word_cycles(word);
     }
     1
 }
@@ -79,28 +72,67 @@ fn woken(regs: Regs) -> Regs
     }
 }
 
-// A step of a machine in range that does not stay in standby. A skipped word is fetched and not decoded.
+// A step of a machine in range that does not stay in standby, up to its last phase, the timer's. A skipped word is fetched and not
+// decoded.
 pub(crate) fn advance(
     rom: &[u16],
     cells: &mut [u8; 128],
     stack: &mut [u16; 5],
     regs: Regs,
     pins: &[u8; 5],
-    directions: &[u8; 5],
-) -> Transfer
-    ensures { λ r. ⌜ ((release : ℕ) → (isMarked (regs .standby) && eqb release 0) ≡ false → executedOf (now (cells .exit)) (now (stack .exit)) regs r ≡ advanceOf upd17132 (now (rom .entry)) (inputAt (now (pins .entry)) (now (directions .entry)) release) (wholeOf (now (cells .entry)) (now (stack .entry)) regs)) ⌝ }
+    registers: &mut [u8; 7],
+    timer: Timer,
+) -> Advanced
+    ensures { λ r. ⌜ ((directions : List ℕ) (release pulse : ℕ) → (isMarked (regs .standby) && eqb release 0) ≡ false → advancedOf pulse (now (cells .exit)) (now (stack .exit)) (now (registers .exit)) timer regs r ≡ advanceOf upd17132 (now (rom .entry)) (signalsAt (now (pins .entry)) directions release pulse) (wholeOf (now (cells .entry)) (now (stack .entry)) (withTimer (now (registers .entry)) timer) regs)) ⌝ }
+    ensures { λ r. ⌜ TakesCycles (cyclesOf (getD (now (rom .entry)) (regs .pc) 0) (regs .skip)) r ⌝ }
+    ensures { λ r. ⌜ ((pulse : ℕ) → Quiet (withTimer (now (registers .entry)) timer) pulse (timer .quiet) → StaysQuiet (now (registers .exit)) pulse r) ⌝ }
 {
     let Fetched::Word(word) = fetch(rom, regs.pc) else {
-        return Transfer::Refused(Refusal::PastRom);
+        return Advanced::Stopped(Refusal::PastRom);
     };
     let awake = woken(regs);
     if regs.skip != 0 {
-        return Transfer::To(control::onward(awake, false));
+        return Advanced::OnTo {
+            regs: control::onward(awake, false),
+            timer: timer,
+            cycles: 1,
+        };
     }
     let Decoded::Instruction(instruction) = isa::decode(word) else {
-        return Transfer::Refused(Refusal::NoInstruction);
+        return Advanced::Stopped(Refusal::NoInstruction);
     };
-    execute(rom, instruction, cells, stack, awake, pins, directions)
+    match execute(
+        rom,
+        instruction,
+        cells,
+        stack,
+        awake,
+        pins,
+        &*registers,
+        timer,
+    ) {
+        Transfer::To(next) => {
+            let set = operations::set(&*cells, registers, timer, instruction);
+            Advanced::OnTo {
+                regs: next,
+                timer: set,
+                cycles: word_cycles(word),
+            }
+        }
+        Transfer::Refused(refusal) => Advanced::Stopped(refusal),
+    }
+}
+
+// A step that stays in standby: HALT's moves the timer by one cycle.
+pub(crate) fn stood(standby: u8, p: Peripherals, pulse: u8) -> Peripherals
+    ensures { λ r. ⌜ r ≡ cond (eqb standby HALT) (tickOf p 1 pulse) p ⌝ }
+{
+    if standby != Machine::HALT {
+        return p;
+    }
+    let registers = p.registers;
+    let timer = peripherals::tick(&registers, peripherals::timer_of(p), 1, pulse);
+    peripherals::join(registers, timer)
 }
 
 pub(crate) fn regs_of(c: Control) -> Regs
@@ -126,11 +158,12 @@ pub(crate) fn control_of(stack: [u16; 5], r: Regs) -> Control
     }
 }
 
-pub(crate) fn join(cells: [u8; 128], control: Control) -> Machine
-    ensures { λ m. ⌜ m ≡ machineOf cells control ⌝ }
+pub(crate) fn join(cells: [u8; 128], peripherals: Peripherals, control: Control) -> Machine
+    ensures { λ m. ⌜ m ≡ machineOf cells peripherals control ⌝ }
 {
     Machine {
         memory: Memory { cells: cells },
+        peripherals: peripherals,
         control: control,
     }
 }

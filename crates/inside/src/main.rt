@@ -1,5 +1,4 @@
-// Shows what no step of the base does: the data buffer read as a number, which is for PUT; and the addresses that no
-// instruction implies, as numbers. All other cases are in cases/.
+// Shows what no step does: the data buffer read as a number of 16 bits; and addresses as numbers. All other cases are in cases/.
 use memory::Memory;
 
 fn show(name: &[u8], n: u16) {

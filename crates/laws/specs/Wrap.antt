@@ -1,4 +1,4 @@
--- A counter of so many bits: document 01 has three, PC and AR of ten bits and IX of seven.
+-- A counter of so many bits: PC and AR have ten, IX seven, and document 02's timer eight.
 -- Assumes nothing.
 use mathlib.Core.Path.{_≡_}
 use Prim.Native.Nat.{ℕ, _+_, _%_, _^_, _<_}

@@ -19,6 +19,13 @@ abbrev pub filledMachine : ℕ → ℕ → Machine
 filledMachine byte word =
     record {
       memory = record { cells = set (set (replicate 128 (byte - 1)) 0 (byte - 2)) 127 (byte - 3) };
+      peripherals =
+          record {
+            registers = (byte - 13) ∷ (byte - 14) ∷ (byte - 15) ∷ (byte - 16) ∷ (byte - 17) ∷ (byte - 18) ∷ (byte - 19) ∷ [];
+            modulo = byte - 20;
+            counter = byte - 21;
+            divider = byte - 22;
+          };
       control =
           record {
             pc = word - 4;

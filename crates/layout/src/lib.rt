@@ -10,6 +10,7 @@ use machine::Control;
 use machine::Input;
 use machine::Machine;
 use memory::Memory;
+use peripherals::Peripherals;
 use pollwezen::OutputReply;
 use pollwezen::ReadReply;
 use pollwezen::RunReply;
@@ -29,15 +30,30 @@ pub struct Laid {
 }
 
 fn machine_with(byte: u8, word: u16) -> Machine
-    requires { ⌜ (12 ≤ byte) × (9 ≤ word) ⌝ }
+    requires { ⌜ (22 ≤ byte) × (9 ≤ word) ⌝ }
     ensures { λ r. ⌜ r ≡ filledMachine byte word ⌝ }
 {
     let mut cells = [byte - 1; 128];
     cells[0] = byte - 2;
     cells[127] = byte - 3;
+    let registers = [
+        byte - 13,
+        byte - 14,
+        byte - 15,
+        byte - 16,
+        byte - 17,
+        byte - 18,
+        byte - 19,
+    ];
     let stack = [word - 5, word - 6, word - 7, word - 8, word - 9];
     Machine {
         memory: Memory { cells: cells },
+        peripherals: Peripherals {
+            registers: registers,
+            modulo: byte - 20,
+            counter: byte - 21,
+            divider: byte - 22,
+        },
         control: Control {
             pc: word - 4,
             stack: stack,

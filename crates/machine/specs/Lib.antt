@@ -1,3 +1,4 @@
+pub mod Signals
 pub mod Parts
 pub mod Ranges
 pub mod Refusals

@@ -6,6 +6,8 @@ use Prim.Native.Nat.{ℕ}
 use lib.Dec.{eqb}
 use lib.ListN.{replicate}
 use Rattle.memory.specs.Range.{resetMemory}
+use Rattle.peripherals.specs.Registers.{resetPeripherals}
+use Rattle.peripherals.specs.declared.Peripherals.{Peripherals}
 use Rattle.machine.specs.declared.Control.{Control}
 use Rattle.machine.specs.declared.Machine.{Machine}
 
@@ -17,20 +19,30 @@ cellsOf m = m .memory .cells
 abbrev pub isMarked : ℕ → Bool
 isMarked mark = not (eqb mark 0)
 
--- the record with another control, and with other cells
-abbrev pub withControl : Control → Machine → Machine
-withControl c m = record { memory = m .memory; control = c }
+-- the standby marks: document 02, E4, "the standing mark tells the two apart"
+abbrev pub HALT : ℕ
+HALT = 1
 
-abbrev pub withCells : List ℕ → Machine → Machine
-withCells cells m = record { memory = record { cells = cells }; control = m .control }
+abbrev pub STOP : ℕ
+STOP = 2
 
 -- the record put together
-abbrev pub machineOf : List ℕ → Control → Machine
-machineOf cells c = record { memory = record { cells = cells }; control = c }
+abbrev pub machineOf : List ℕ → Peripherals → Control → Machine
+machineOf cells p c = record { memory = record { cells = cells }; peripherals = p; control = c }
 
--- "Reset gives all zeros and no mark"
+-- the record with one part another
+abbrev pub withCells : List ℕ → Machine → Machine
+withCells cells m = machineOf cells (m .peripherals) (m .control)
+
+abbrev pub withPeripherals : Peripherals → Machine → Machine
+withPeripherals p m = machineOf (cellsOf m) p (m .control)
+
+abbrev pub withControl : Control → Machine → Machine
+withControl c m = machineOf (cellsOf m) (m .peripherals) c
+
+-- "Reset gives all zeros and no mark"; the peripherals start as source document 000 says
 abbrev pub resetControl : Control
 resetControl = record { pc = 0; stack = replicate 5 0; levels = 0; skip = 0; standby = 0 }
 
 abbrev pub resetMachine : Machine
-resetMachine = record { memory = resetMemory; control = resetControl }
+resetMachine = record { memory = resetMemory; peripherals = resetPeripherals; control = resetControl }

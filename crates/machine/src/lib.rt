@@ -7,6 +7,7 @@ ghost use mathlib.Core.Path.{_≡_};
 ghost use Rattle.machine.specs.Parts.{resetMachine};
 ghost use Rattle.machine.specs.Refusals.{numberOf};
 use memory::Memory;
+use peripherals::Peripherals;
 
 // Document 01's input record: the pins and directions of P0A to P0E, and the release bit.
 #[repr(C)]
@@ -16,8 +17,8 @@ pub struct Input {
     pub release: u8,
 }
 
-// All of the machine's record but its memory. The marks are in range at 0 and 1. Document 01 calls the standby mark standing,
-// and the skip mark skip pending.
+// PC, stack and marks. The skip mark, which document 01 calls skip pending, is 0 or 1; the standby mark, which it calls standing,
+// is 0, or 1 in HALT and 2 in STOP.
 #[repr(C)]
 pub struct Control {
     pub pc: u16,
@@ -32,15 +33,17 @@ pub struct Control {
 #[repr(C)]
 pub struct Machine {
     pub memory: Memory,
+    pub peripherals: Peripherals,
     pub control: Control,
 }
 
-// Why a step is refused: refusals 1 to 8, in their order.
+// Why a step is refused: refusals 1 to 8, in their order, with 30 after 4.
 pub enum Refusal {
     OutOfRange,
     PastRom,
     NoInstruction,
     Unsupported,
+    NoRegister,
     BadTarget,
     StackFull,
     StackEmpty,
@@ -56,6 +59,7 @@ impl Refusal {
             Refusal::PastRom => 2,
             Refusal::NoInstruction => 3,
             Refusal::Unsupported => 4,
+            Refusal::NoRegister => 30,
             Refusal::BadTarget => 5,
             Refusal::StackFull => 6,
             Refusal::StackEmpty => 7,
@@ -65,11 +69,17 @@ impl Refusal {
 }
 
 impl Machine {
+    // The standby marks.
+    pub const HALT: u8 = 1;
+
+    pub const STOP: u8 = 2;
+
     pub fn reset() -> Machine
         ensures { λ r. ⌜ r ≡ resetMachine ⌝ }
     {
         Machine {
             memory: Memory::reset(),
+            peripherals: Peripherals::reset(),
             control: Control {
                 pc: 0,
                 stack: [0u16; 5],

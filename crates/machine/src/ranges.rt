@@ -3,7 +3,8 @@ ghost use mathlib.Core.Path.{_≡_};
 ghost use mathlib.Core.Bool.{cond};
 ghost use lib.Dec.{eqb, ltb};
 ghost use Rattle.memory.specs.Chip.{upd17132};
-ghost use Rattle.machine.specs.Ranges.{fiveNibbles, controlInRange, marksInRange, machineInRange, inputInRange, romInRange, allInRange};
+ghost use Rattle.machine.specs.Ranges.{fiveNibbles, controlInRange, marksInRange, machineInRange, inputInRange, signalsInRange, romInRange, allInRange};
+ghost use Rattle.machine.specs.Signals.{signals};
 use crate::Control;
 use crate::Input;
 use crate::Machine;
@@ -52,14 +53,14 @@ fn control(c: Control) -> bool
     level(0, levels, stack[0])
 }
 
-// The marks are 0 or 1.
+// The skip mark is 0 or 1, and the standby mark 0, 1 or 2.
 fn marks(c: Control) -> bool
     ensures { λ r. ⌜ r ≡ marksInRange c ⌝ }
 {
     if 1 < c.skip {
         return false;
     }
-    c.standby <= 1
+    c.standby <= 2
 }
 
 fn machine(m: Machine) -> bool
@@ -74,7 +75,10 @@ fn machine(m: Machine) -> bool
     if !control(part) {
         return false;
     }
-    marks(part)
+    if !marks(part) {
+        return false;
+    }
+    peripherals::in_range(m.peripherals)
 }
 
 fn input(i: Input) -> bool
@@ -100,14 +104,24 @@ fn rom(words: &[u16]) -> bool
     words.len() <= 1024
 }
 
+// The input record, and the pulse bit beside it.
+fn given(i: Input, pulse: u8) -> bool
+    ensures { λ r. ⌜ r ≡ signalsInRange (signals i pulse) ⌝ }
+{
+    if !input(i) {
+        return false;
+    }
+    pulse < 2
+}
+
 // All that a step tests for refusal 1.
-pub fn all(words: &[u16], m: Machine, i: Input) -> bool
-    ensures { λ r. ⌜ r ≡ allInRange upd17132 (now (words .entry)) m i ⌝ }
+pub fn all(words: &[u16], m: Machine, i: Input, pulse: u8) -> bool
+    ensures { λ r. ⌜ r ≡ allInRange upd17132 (now (words .entry)) m (signals i pulse) ⌝ }
 {
     if !machine(m) {
         return false;
     }
-    if !input(i) {
+    if !given(i, pulse) {
         return false;
     }
     rom(words)

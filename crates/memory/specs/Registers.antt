@@ -1,7 +1,7 @@
 -- WR, and the registers of several cells: AR, the data buffer and IX, read as numbers and written nibble by nibble.
 -- Assumes nothing.
 use mathlib.Core.List.{List, [], _∷_}
-use Prim.Native.Nat.{ℕ, _/_, _%_}
+use Prim.Native.Nat.{ℕ, _+_, _*_, _/_, _%_}
 use Rattle.laws.specs.Wrap.{wrapNext}
 use Rattle.memory.specs.Address.{ixOf}
 use Rattle.memory.specs.Cells.{cellAt, nibbleAt, number}
@@ -19,6 +19,13 @@ arOf cells = number (nibbleAt cells AR3) (nibbleAt cells AR2) (nibbleAt cells AR
 -- the data buffer
 abbrev pub bufferOf : List ℕ → ℕ
 bufferOf cells = number (nibbleAt cells DBF3) (nibbleAt cells DBF2) (nibbleAt cells DBF1) (nibbleAt cells DBF0)
+
+-- its lower eight bits: GET and PUT of a peripheral of eight bits (source document 000, 10.2.2)
+abbrev pub lowByteOf : List ℕ → ℕ
+lowByteOf cells = nibbleAt cells DBF1 * 16 + nibbleAt cells DBF0
+
+abbrev pub lowByteWrites : ℕ → List Write
+lowByteWrites v = (DBF1 ↤ (v / 16)) ∷ (DBF0 ↤ (v % 16)) ∷ []
 
 -- the writes that put a number of 16 bits into four cells, the highest nibble first
 abbrev pub numberWrites : ℕ → ℕ → ℕ → ℕ → ℕ → List Write

@@ -19,9 +19,11 @@ pub use registers::ar;
 pub use registers::buffer;
 pub use registers::increment_ar;
 pub use registers::increment_ix;
+pub use registers::low_byte;
 pub use registers::window;
 pub use registers::write_ar;
 pub use registers::write_buffer;
+pub use registers::write_low_byte;
 ghost use mathlib.Core.Path.{_≡_};
 ghost use Rattle.memory.specs.Range.{resetMemory};
 

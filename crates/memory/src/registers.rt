@@ -4,7 +4,7 @@ ghost use Prim.Native.Nat.{_%_};
 ghost use Rattle.laws.specs.Wrap.{wrapNext};
 ghost use Rattle.memory.specs.Chip.{upd17132};
 ghost use Rattle.memory.specs.Cells.{number};
-ghost use Rattle.memory.specs.Registers.{windowOf, arOf, bufferOf, numberWrites, arWrites, bufferWrites, incrementAr, incrementIx};
+ghost use Rattle.memory.specs.Registers.{windowOf, arOf, bufferOf, lowByteOf, lowByteWrites, numberWrites, arWrites, bufferWrites, incrementAr, incrementIx};
 ghost use Rattle.memory.specs.Write.{writesApplied};
 use crate::Memory;
 use crate::addressing::ix;
@@ -97,6 +97,21 @@ pub fn write_buffer(cells: [u8; 128], v: u16) -> [u8; 128]
         Memory::DBF0,
         v,
     )
+}
+
+// The lower eight bits of the data buffer.
+pub fn low_byte(cells: &[u8; 128]) -> u8
+    ensures { λ r. ⌜ r ≡ lowByteOf (now (cells .entry)) ⌝ }
+{
+    cells[Memory::DBF1 as usize] % 16 * 16 + cells[Memory::DBF0 as usize] % 16
+}
+
+// The lower eight bits of the data buffer written, and its upper eight kept.
+pub fn write_low_byte(cells: [u8; 128], v: u8) -> [u8; 128]
+    ensures { λ r. ⌜ r ≡ writesApplied upd17132 cells (lowByteWrites v) ⌝ }
+{
+    let high = write(cells, Memory::DBF1, v / 16);
+    write(high, Memory::DBF0, v % 16)
 }
 
 // INC IX: after 7FH comes 00H, and MPE stays.

@@ -1,3 +1,4 @@
 pub mod Data
 pub mod Operands
 pub mod Writes
+pub mod Settings

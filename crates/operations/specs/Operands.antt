@@ -1,6 +1,7 @@
 -- The operands of an instruction, and where they stand: document 01, "Addresses". Their addresses are found before anything is
 -- written.
 -- Assumes nothing.
+use mathlib.Core.Bool.{cond}
 use mathlib.Core.List.{List, [], _∷_}
 use Prim.Native.Nat.{ℕ}
 use Rattle.isa.specs.declared.AluOp.{AluOp}
@@ -13,16 +14,18 @@ use Rattle.isa.specs.declared.Instruction.{Instruction}
 use Rattle.isa.specs.declared.Instruction.the-variants.{AluRegister, AluImmediate, Skip, Rorc, Ld, St, MovToIndirect, MovFromIndirect, MovImmediate, Peek, Poke, Get, Put, Br, Call, Stop, Halt, Fixed}
 use Rattle.memory.specs.Address.{addressOf, registerOf, indirectOf}
 use Rattle.memory.specs.Chip.{Chip}
-use Rattle.memory.specs.Names.{AR3, AR2, AR1, AR0, IXH, IXM, IXL, RPL, PSW}
+use Rattle.memory.specs.Names.{AR3, AR2, AR1, AR0, WR, DBF1, DBF0, IXH, IXM, IXL, RPL, PSW}
+use Rattle.peripherals.specs.Registers.{isData}
 use Rattle.operations.specs.Data.{Data, readAt}
 use Rattle.operations.specs.declared.Addresses.{Addresses}
 
--- m, r, and @r with the row that m gives
+-- m, r, @r with the row that m gives, and the register file's rf where that is a cell
 pub data Operand : Type 0 where
   none : Operand
   direct : ℕ → Operand
   register : ℕ → Operand
   indirect : ℕ → ℕ → Operand
+  file : ℕ → Operand
 
 pub record Operands : Type 0 where
   -- the cell that the result goes to
@@ -82,10 +85,10 @@ operandsOf (St m r) = operands (direct m) (register r) []
 operandsOf (MovToIndirect r m) = operands (indirect m r) (direct m) []
 operandsOf (MovFromIndirect m r) = operands (direct m) (indirect m r) []
 operandsOf (MovImmediate m n4) = operands (direct m) none []
-operandsOf (Peek rf) = operands none none []
-operandsOf (Poke rf) = operands none none []
+operandsOf (Peek rf) = operands none (file rf) []
+operandsOf (Poke rf) = operands (file rf) none (WR ∷ [])
 operandsOf (Get p) = operands none none []
-operandsOf (Put p) = operands none none []
+operandsOf (Put p) = operands none none (DBF1 ∷ DBF0 ∷ [])
 operandsOf (Br addr) = operands none none []
 operandsOf (Call addr) = operands none none []
 operandsOf (Stop s) = operands none none []
@@ -97,12 +100,13 @@ abbrev pub noCell : ℕ
 noCell = 128
 
 module _ (chip : Chip) (d : Data) where
-  -- the effective address of an operand
+  -- the effective address of an operand; IX changes m, and never rf (source document 000, table 7-1)
   unfoldable pub addressIn : Operand → ℕ
   addressIn none = noCell
   addressIn (direct m) = addressOf (d .cells) m
   addressIn (register r) = registerOf (d .cells) r
   addressIn (indirect m r) = indirectOf (d .cells) m (readAt chip d (registerOf (d .cells) r))
+  addressIn (file rf) = cond (isData rf) rf noCell
 
   unfoldable pub addressesOf : Instruction → Addresses
   addressesOf i = record { to = addressIn (operandsOf i .to); from = addressIn (operandsOf i .from) }

@@ -16,10 +16,11 @@ use Rattle.alu.specs.declared.Outcome.{Outcome}
 use Rattle.alu.specs.Results.{operateOf, rotateOf, zeroOf, conditionOf}
 use Rattle.memory.specs.Cells.{cellAt, isSet, withFlag}
 use Rattle.memory.specs.Chip.{Chip}
-use Rattle.memory.specs.Names.{PSW, RPL, CMP, CY, Z, BCD}
-use Rattle.memory.specs.Registers.{bufferWrites, arWrites, incrementAr, incrementIx}
+use Rattle.memory.specs.Names.{WR, PSW, RPL, CMP, CY, Z, BCD}
+use Rattle.memory.specs.Registers.{windowOf, lowByteWrites, bufferWrites, arWrites, incrementAr, incrementIx}
 use Rattle.memory.specs.Write.{Write, _↤_}
-use Rattle.operations.specs.Data.{Data, readAt}
+use Rattle.peripherals.specs.Registers.{isData, peekOf}
+use Rattle.operations.specs.Data.{Data, Sources, readAt}
 use Rattle.operations.specs.Operands.{addressesOf}
 use Rattle.operations.specs.declared.Addresses.{Addresses}
 
@@ -68,6 +69,10 @@ module _ (cells : List ℕ) where
   skipWrites Skge = []
   skipWrites Sklt = []
 
+  -- POKE of a data cell; of a control register it writes no cell
+  unfoldable pub pokeWrites : ℕ → List Write
+  pokeWrites rf = cond (isData rf) ((rf ↤ windowOf cells) ∷ []) []
+
 module _ (chip : Chip) (d : Data) where
   -- an operation on what stands at an address and a second operand
   unfoldable pub aluWrites : AluOp → ℕ → ℕ → List Write
@@ -78,41 +83,45 @@ module _ (chip : Chip) (d : Data) where
   unfoldable pub transferWrites : Addresses → List Write
   transferWrites a = (a .to ↤ readAt chip d (a .from)) ∷ []
 
-  -- by the addresses that were found; top is the address on the stack's highest open level, and word the ROM word at AR
-  unfoldable pub writesAt : Addresses → Instruction → ℕ → ℕ → List Write
-  writesAt a (AluRegister op r m) top word = aluWrites op (a .to) (readAt chip d (a .from))
-  writesAt a (AluImmediate op m n4) top word = aluWrites op (a .to) n4
-  writesAt a (Skip op m n4) top word = skipWrites (d .cells) op
-  writesAt a (Rorc r) top word = rotateWrites (d .cells) (a .to) (rotateOf (readAt chip d (a .to)) (flag (d .cells) CY))
-  writesAt a (Ld r m) top word = transferWrites a
-  writesAt a (St m r) top word = transferWrites a
-  writesAt a (MovToIndirect r m) top word = transferWrites a
-  writesAt a (MovFromIndirect m r) top word = transferWrites a
-  writesAt a (MovImmediate m n4) top word = (a .to ↤ n4) ∷ []
-  writesAt a (Peek rf) top word = []
-  writesAt a (Poke rf) top word = []
-  writesAt a (Get p) top word = []
-  writesAt a (Put p) top word = []
-  writesAt a (Br addr) top word = []
-  writesAt a (Call addr) top word = []
-  writesAt a (Stop s) top word = []
-  writesAt a (Halt h) top word = []
-  writesAt a (Fixed IncAr) top word = incrementAr (d .cells)
-  writesAt a (Fixed IncIx) top word = incrementIx (d .cells)
-  writesAt a (Fixed Movt) top word = bufferWrites word
-  writesAt a (Fixed PushAr) top word = []
-  writesAt a (Fixed PopAr) top word = arWrites top
-  writesAt a (Fixed BrAr) top word = []
-  writesAt a (Fixed CallAr) top word = []
-  writesAt a (Fixed Ret) top word = []
-  writesAt a (Fixed Retsk) top word = []
-  writesAt a (Fixed Reti) top word = []
-  writesAt a (Fixed Ei) top word = []
-  writesAt a (Fixed Di) top word = []
-  writesAt a (Fixed Nop) top word = []
+  -- what stands in the register file: data memory by the very rule of cells, below it the control registers
+  unfoldable pub fileAt : ℕ → ℕ
+  fileAt rf = cond (isData rf) (readAt chip d rf) (peekOf (d .registers) rf)
 
-  unfoldable pub writesOf : Instruction → ℕ → ℕ → List Write
-  writesOf i top word = writesAt (addressesOf chip d i) i top word
+  -- by the addresses that were found
+  unfoldable pub writesAt : Addresses → Instruction → Sources → List Write
+  writesAt a (AluRegister op r m) src = aluWrites op (a .to) (readAt chip d (a .from))
+  writesAt a (AluImmediate op m n4) src = aluWrites op (a .to) n4
+  writesAt a (Skip op m n4) src = skipWrites (d .cells) op
+  writesAt a (Rorc r) src = rotateWrites (d .cells) (a .to) (rotateOf (readAt chip d (a .to)) (flag (d .cells) CY))
+  writesAt a (Ld r m) src = transferWrites a
+  writesAt a (St m r) src = transferWrites a
+  writesAt a (MovToIndirect r m) src = transferWrites a
+  writesAt a (MovFromIndirect m r) src = transferWrites a
+  writesAt a (MovImmediate m n4) src = (a .to ↤ n4) ∷ []
+  writesAt a (Peek rf) src = (WR ↤ fileAt rf) ∷ []
+  writesAt a (Poke rf) src = pokeWrites (d .cells) rf
+  writesAt a (Get p) src = lowByteWrites (src .counter)
+  writesAt a (Put p) src = []
+  writesAt a (Br addr) src = []
+  writesAt a (Call addr) src = []
+  writesAt a (Stop s) src = []
+  writesAt a (Halt h) src = []
+  writesAt a (Fixed IncAr) src = incrementAr (d .cells)
+  writesAt a (Fixed IncIx) src = incrementIx (d .cells)
+  writesAt a (Fixed Movt) src = bufferWrites (src .word)
+  writesAt a (Fixed PushAr) src = []
+  writesAt a (Fixed PopAr) src = arWrites (src .top)
+  writesAt a (Fixed BrAr) src = []
+  writesAt a (Fixed CallAr) src = []
+  writesAt a (Fixed Ret) src = []
+  writesAt a (Fixed Retsk) src = []
+  writesAt a (Fixed Reti) src = []
+  writesAt a (Fixed Ei) src = []
+  writesAt a (Fixed Di) src = []
+  writesAt a (Fixed Nop) src = []
+
+  unfoldable pub writesOf : Instruction → Sources → List Write
+  writesOf i src = writesAt (addressesOf chip d i) i src
 
   -- whether a skip's condition holds
   unfoldable pub holdsAt : Addresses → Instruction → Bool

@@ -7,6 +7,7 @@ ghost use Rattle.memory.specs.Names.{RPL, BCD};
 ghost use Rattle.memory.specs.Write.{writesApplied};
 ghost use Rattle.operations.specs.Data.{dataAt};
 ghost use Rattle.operations.specs.Writes.{flagsAfter, arithmeticWrites, aluWrites};
+use crate::file::read;
 use alu::Outcome;
 use isa::AluOp;
 use memory::Memory;
@@ -56,17 +57,10 @@ fn subtract(cells: &mut [u8; 128], at: u8, a: u8, b: u8, carry: bool)
 }
 
 // An operation on what stands at an address and a second operand. Arithmetic sets flags, logic does not.
-pub fn operate(
-    cells: &mut [u8; 128],
-    pins: &[u8; 5],
-    directions: &[u8; 5],
-    op: AluOp,
-    at: u8,
-    b: u8,
-)
-    ensures { λ _. ⌜ now (cells .exit) ≡ writesApplied upd17132 (now (cells .entry)) (aluWrites upd17132 (dataAt (now (cells .entry)) (now (pins .entry)) (now (directions .entry))) op at b) ⌝ }
+pub fn operate(cells: &mut [u8; 128], pins: &[u8; 5], registers: &[u8; 7], op: AluOp, at: u8, b: u8)
+    ensures { λ _. ⌜ now (cells .exit) ≡ writesApplied upd17132 (now (cells .entry)) (aluWrites upd17132 (dataAt (now (cells .entry)) (now (pins .entry)) (now (registers .entry))) op at b) ⌝ }
 {
-    let a = memory::read(&*cells, pins, directions, at);
+    let a = read(&*cells, pins, registers, at);
     match op {
         AluOp::Add => {
             add(cells, at, a, b, false);

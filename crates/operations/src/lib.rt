@@ -1,9 +1,15 @@
-// What an instruction makes of the cells: first where its operands stand, then its writes, at these addresses.
+// What an instruction makes of the cells: first where its operands stand, then its writes, at these addresses; and what it makes of the
+// peripherals.
 mod arithmetic;
+mod file;
 mod operands;
 mod others;
 
 pub use arithmetic::operate;
+pub use file::peek;
+pub use file::poke;
+pub use file::read;
+pub use file::set;
 pub use operands::locate;
 pub use others::rorc;
 pub use others::skip;

@@ -1,20 +1,24 @@
 // The effective addresses of operands, found before anything is written.
 ghost use mathlib.Core.Path.{_≡_};
+ghost use mathlib.Core.Bool.{cond};
 ghost use Rattle.memory.specs.Chip.{upd17132};
+ghost use Rattle.peripherals.specs.Registers.{isData};
 ghost use Rattle.operations.specs.Data.{dataAt};
 ghost use Rattle.operations.specs.Operands.{addressIn, addressesOf, indirect, noCell};
 use crate::Addresses;
+use crate::file::read;
 use isa::Instruction;
+use peripherals::Peripherals;
 
 // An address that no cell has.
 const NO_CELL: u8 = 128;
 
 // The address of @r.
-fn pointer(cells: &[u8; 128], pins: &[u8; 5], directions: &[u8; 5], m: u8, r: u8) -> u8
-    ensures { λ a. ⌜ a ≡ addressIn upd17132 (dataAt (now (cells .entry)) (now (pins .entry)) (now (directions .entry))) (indirect m r) ⌝ }
+fn pointer(cells: &[u8; 128], pins: &[u8; 5], registers: &[u8; 7], m: u8, r: u8) -> u8
+    ensures { λ a. ⌜ a ≡ addressIn upd17132 (dataAt (now (cells .entry)) (now (pins .entry)) (now (registers .entry))) (indirect m r) ⌝ }
 {
     let from = memory::register(cells, r);
-    let column = memory::read(cells, pins, directions, from);
+    let column = read(cells, pins, registers, from);
     memory::indirect(cells, m, column)
 }
 
@@ -30,13 +34,23 @@ fn no_operands() -> Addresses
     both(NO_CELL, NO_CELL)
 }
 
+// The address of rf, where that is a cell.
+fn file(rf: u8) -> u8
+    ensures { λ a. ⌜ a ≡ cond (isData rf) rf noCell ⌝ }
+{
+    if Peripherals::DATA <= rf {
+        return rf;
+    }
+    NO_CELL
+}
+
 pub fn locate(
     cells: &[u8; 128],
     pins: &[u8; 5],
-    directions: &[u8; 5],
+    registers: &[u8; 7],
     instruction: Instruction,
 ) -> Addresses
-    ensures { λ a. ⌜ a ≡ addressesOf upd17132 (dataAt (now (cells .entry)) (now (pins .entry)) (now (directions .entry))) instruction ⌝ }
+    ensures { λ a. ⌜ a ≡ addressesOf upd17132 (dataAt (now (cells .entry)) (now (pins .entry)) (now (registers .entry))) instruction ⌝ }
 {
     match instruction {
         Instruction::AluRegister { op: _, r, m } => {
@@ -49,19 +63,19 @@ pub fn locate(
         Instruction::St { m, r } => both(memory::address(cells, m), memory::register(cells, r)),
         Instruction::MovToIndirect { r, m } => {
             both(
-                pointer(cells, pins, directions, m, r),
+                pointer(cells, pins, registers, m, r),
                 memory::address(cells, m),
             )
         }
         Instruction::MovFromIndirect { m, r } => {
             both(
                 memory::address(cells, m),
-                pointer(cells, pins, directions, m, r),
+                pointer(cells, pins, registers, m, r),
             )
         }
         Instruction::MovImmediate { m, n4: _ } => both(memory::address(cells, m), NO_CELL),
-        Instruction::Peek(_) => no_operands(),
-        Instruction::Poke(_) => no_operands(),
+        Instruction::Peek(rf) => both(NO_CELL, file(rf)),
+        Instruction::Poke(rf) => both(file(rf), NO_CELL),
         Instruction::Get(_) => no_operands(),
         Instruction::Put(_) => no_operands(),
         Instruction::Br(_) => no_operands(),

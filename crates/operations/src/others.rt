@@ -7,6 +7,7 @@ ghost use Rattle.memory.specs.Write.{writesApplied};
 ghost use Rattle.operations.specs.Data.{dataAt, readAt};
 ghost use Rattle.operations.specs.Writes.{flag, rotateWrites, skipWrites, transferWrites};
 use crate::Addresses;
+use crate::file::read;
 use isa::SkipOp;
 use memory::Memory;
 
@@ -34,23 +35,23 @@ fn clear_cmp(cells: &mut [u8; 128], op: SkipOp)
 pub fn skip(
     cells: &mut [u8; 128],
     pins: &[u8; 5],
-    directions: &[u8; 5],
+    registers: &[u8; 7],
     op: SkipOp,
     from: u8,
     n4: u8,
 ) -> bool
-    ensures { λ r. ⌜ (now (cells .exit) ≡ writesApplied upd17132 (now (cells .entry)) (skipWrites (now (cells .entry)) op)) × (r ≡ conditionOf op (readAt upd17132 (dataAt (now (cells .entry)) (now (pins .entry)) (now (directions .entry))) from) n4) ⌝ }
+    ensures { λ r. ⌜ (now (cells .exit) ≡ writesApplied upd17132 (now (cells .entry)) (skipWrites (now (cells .entry)) op)) × (r ≡ conditionOf op (readAt upd17132 (dataAt (now (cells .entry)) (now (pins .entry)) (now (registers .entry))) from) n4) ⌝ }
 {
-    let x = memory::read(&*cells, pins, directions, from);
+    let x = read(&*cells, pins, registers, from);
     clear_cmp(cells, op);
     alu::skips(op, x, n4)
 }
 
 // RORC on what stands at an address.
-pub fn rorc(cells: &mut [u8; 128], pins: &[u8; 5], directions: &[u8; 5], to: u8)
-    ensures { λ _. ⌜ now (cells .exit) ≡ writesApplied upd17132 (now (cells .entry)) (rotateWrites (now (cells .entry)) to (rotateOf (readAt upd17132 (dataAt (now (cells .entry)) (now (pins .entry)) (now (directions .entry))) to) (flag (now (cells .entry)) CY))) ⌝ }
+pub fn rorc(cells: &mut [u8; 128], pins: &[u8; 5], registers: &[u8; 7], to: u8)
+    ensures { λ _. ⌜ now (cells .exit) ≡ writesApplied upd17132 (now (cells .entry)) (rotateWrites (now (cells .entry)) to (rotateOf (readAt upd17132 (dataAt (now (cells .entry)) (now (pins .entry)) (now (registers .entry))) to) (flag (now (cells .entry)) CY))) ⌝ }
 {
-    let x = memory::read(&*cells, pins, directions, to);
+    let x = read(&*cells, pins, registers, to);
     let carry = memory::is_set(&*cells, Memory::PSW, Memory::CY);
     let o = alu::rotate(x, carry);
     if to == Memory::PSW {
@@ -63,9 +64,9 @@ pub fn rorc(cells: &mut [u8; 128], pins: &[u8; 5], directions: &[u8; 5], to: u8)
 }
 
 // LD, ST and MOV: what stands at one address goes to the other.
-pub fn transfer(cells: &mut [u8; 128], pins: &[u8; 5], directions: &[u8; 5], a: Addresses)
-    ensures { λ _. ⌜ now (cells .exit) ≡ writesApplied upd17132 (now (cells .entry)) (transferWrites upd17132 (dataAt (now (cells .entry)) (now (pins .entry)) (now (directions .entry))) a) ⌝ }
+pub fn transfer(cells: &mut [u8; 128], pins: &[u8; 5], registers: &[u8; 7], a: Addresses)
+    ensures { λ _. ⌜ now (cells .exit) ≡ writesApplied upd17132 (now (cells .entry)) (transferWrites upd17132 (dataAt (now (cells .entry)) (now (pins .entry)) (now (registers .entry))) a) ⌝ }
 {
-    let moved = memory::read(&*cells, pins, directions, a.from);
+    let moved = read(&*cells, pins, registers, a.from);
     memory::store(cells, a.to, moved);
 }

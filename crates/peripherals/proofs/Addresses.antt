@@ -24,11 +24,11 @@ pub no-register : (rf : ℕ) → rf < 256 → Rest keys rf → 7 ≡ placeOf rf
 unfolding controlRegisters
 no-register rf h r = eqb→eq _ _ (in-rest keys [] (λ (k : ℕ). eqb 7 (placeOf k)) 256 tt rf h r tt)
 
-module _ (p : Peripherals) (rf : ℕ) (past : length (p .registers) ≤ placeOf rf) where
-  pub peek-past : 0 ≡ peekOf p rf
-  unfolding peekOf
-  peek-past = sym (getD-past (p .registers) (placeOf rf) 0 past)
+pub peek-past : (registers : List ℕ) (rf : ℕ) → length registers ≤ placeOf rf → 0 ≡ peekOf registers rf
+unfolding peekOf
+peek-past registers rf past = sym (getD-past registers (placeOf rf) 0 past)
 
+module _ (p : Peripherals) (rf : ℕ) (past : length (p .registers) ≤ placeOf rf) where
   pub poke-past : (v : ℕ) → 0 < length (p .registers) → p ≡ pokeOf p rf v
   unfolding pokeOf
   poke-past v some =

@@ -1,6 +1,6 @@
 -- The counter counts the pulses of a list of ticks, and the divider its cycles.
 -- Assumes nothing.
-use mathlib.Core.Path.{_≡_, _∙_, refl}
+use mathlib.Core.Path.{_≡_, _∙_, ap, refl, sym}
 use mathlib.Core.Bool.{Bool, true, false}
 use mathlib.Core.List.{List, [], _∷_}
 use Prim.Native.Nat.{ℕ, _+_, _%_, _<_}
@@ -8,10 +8,13 @@ use native.Mathlib.Nat.{add-zero, zero-add, add-assoc}
 use native.Mathlib.Numerals.{add-one}
 use native.Mathlib.Omega.{arith}
 use Rattle.laws.specs.Bit.{bit}
-use Rattle.peripherals.specs.Registers.{isOn}
+use borrow.Author.Tests.{ne-eqb}
+use lib.Seq.{getD-set-other}
+use Rattle.peripherals.specs.Registers.{isOn, placeOf, pokeOf}
 use Rattle.peripherals.specs.Table.{TM, TMEN}
 use Rattle.peripherals.specs.Timer.{clockOf, comesOf, counterOf, tickOf}
-use Rattle.peripherals.specs.TimerLaws.{pulsed, Tick, afterTicks, cyclesIn, pulsesIn, CountLaws}
+use Rattle.peripherals.specs.TimerLaws.{pulsed, Tick, afterTicks, cyclesIn, pulsesIn, CountLaws, Counting, CountingLaws}
+use Rattle.peripherals.proofs.Since.{elsewhere}
 use Rattle.peripherals.specs.declared.Peripherals.{Peripherals}
 
 module _ (p : Peripherals) (cycles pulse n : ℕ) (on : isOn (p .registers) TM TMEN ≡ true) (e : p .counter ≡ pulsed (p .modulo) n) where
@@ -46,3 +49,25 @@ running (t ∷ ts) p h = running ts (tickOf p (t .cycles) (t .pulse)) (omega ari
 
 pub count-laws : (p : Peripherals) (ts : List Tick) → CountLaws p ts
 count-laws p ts = record { counted = λ on e. rw (zero-add (pulsesIn ts p)) at (counted ts p 0 on e); stopped = stopped ts p; running = running ts p }
+
+ticks-on : (mode modulo n cycles pulse : ℕ) (p : Peripherals) → isOn (p .registers) TM TMEN ≡ true → Counting mode modulo n p
+    → Counting mode modulo (n + bit (comesOf (clockOf (p .registers)) (p .divider) cycles pulse)) (tickOf p cycles pulse)
+unfolding tickOf
+ticks-on mode modulo n cycles pulse p on c = record {
+  same-mode = c .same-mode;
+  same-modulo = c .same-modulo;
+  counter =
+      once p cycles pulse n on (c .counter ∙ ap (λ (x : ℕ). pulsed x n) (sym (c .same-modulo)))
+      ∙ ap (λ (x : ℕ). pulsed x (n + bit (comesOf (clockOf (p .registers)) (p .divider) cycles pulse))) (c .same-modulo);
+}
+
+pokes-on : (mode modulo n rf v : ℕ) (p : Peripherals) → (rf ≡ 0x11 → ⊥) → Counting mode modulo n p → Counting mode modulo n (pokeOf p rf v)
+unfolding pokeOf
+pokes-on mode modulo n rf v p other c = record {
+  same-mode = getD-set-other (p .registers) (placeOf rf) TM _ 0 (λ e. elsewhere rf other (sym e)) ∙ c .same-mode;
+  same-modulo = c .same-modulo;
+  counter = rw (ne-eqb (placeOf rf) TM (elsewhere rf other)) (c .counter);
+}
+
+pub counting-laws : CountingLaws
+counting-laws = record { tick = ticks-on; poke = pokes-on }

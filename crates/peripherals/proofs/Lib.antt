@@ -7,3 +7,4 @@ pub mod Since
 pub mod Counting
 pub mod Values
 pub mod Writes
+pub mod Paces

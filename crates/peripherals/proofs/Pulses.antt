@@ -30,8 +30,14 @@ unfolding comesOf
 number clock divider cycles pulse h l =
     rw (ne-eqb clock 3 (λ e. omega arith)) (at-most-one (pulsesOf (periodOf clock) divider cycles) (one clock divider cycles h l))
 
+pin : (divider cycles pulse : ℕ) → pulse ≤ 1 → bit (comesOf 3 divider cycles pulse) ≡ pulse
+unfolding comesOf
+pin divider cycles zero h = refl
+pin divider cycles (suc zero) h = refl
+pin divider cycles (suc (suc pulse)) h = absurd (omega arith)
+
 pub pulse-laws : (clock divider cycles pulse : ℕ) → PulseLaws clock divider cycles pulse
-pulse-laws clock divider cycles pulse = record { one = one clock divider cycles; number = number clock divider cycles pulse }
+pulse-laws clock divider cycles pulse = record { one = one clock divider cycles; number = number clock divider cycles pulse; pin = pin divider cycles pulse }
 
 -- at equality the next pulse clears the counter, and else it counts
 pub at-match : (modulo counter : ℕ) → counter ≡ modulo → countOf modulo counter ≡ 0

@@ -45,7 +45,7 @@ module _ (cycles more pulse : ℕ) (p : Peripherals) (small : more ≤ 2) (s : S
   goes-on = record { mode = s .mode; modulo = s .modulo; counter = counter; divider = rw (s .divider) (omega arith) }
 
 -- another register than 11H stands at another place
-elsewhere : (rf : ℕ) → (rf ≡ 0x11 → ⊥) → placeOf rf ≡ TM → ⊥
+pub elsewhere : (rf : ℕ) → (rf ≡ 0x11 → ⊥) → placeOf rf ≡ TM → ⊥
 unfolding controlRegisters
 elsewhere rf n e = let q = rw (ne-eqb rf 0x11 n) at e in omega (arith, q)
 

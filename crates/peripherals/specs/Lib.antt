@@ -1,7 +1,9 @@
 pub mod Table
 pub mod Registers
+pub mod Parts
 pub mod Directions
 pub mod Timer
 pub mod Range
+pub mod Pace
 pub mod TimerLaws
 pub mod PeripheralLaws

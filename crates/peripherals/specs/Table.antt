@@ -27,6 +27,13 @@ controlRegisters =
     ∷ line 0x35 0b1111 0b0000
     ∷ []
 
+-- the peripherals that GET and PUT go to: the counter is read and the modulo register is written (source document 000, table 10-1)
+abbrev pub TMC : ℕ
+TMC = 0x02
+
+abbrev pub TMM : ℕ
+TMM = 0x03
+
 -- the bits that stay at a place of the table; past its end none
 abbrev pub staysAt : ℕ → ℕ
 staysAt k = getD (map (λ (r : Register). r .stays) controlRegisters) k 0

@@ -21,6 +21,8 @@ pub record TickLaws (p : Peripherals) (cycles pulse : ℕ) : Type 0 where
 pub record PulseLaws (clock divider cycles pulse : ℕ) : Type 0 where
   pub one : clock < 3 → cycles ≤ 2 → pulsesOf (periodOf clock) divider cycles ≤ 1
   pub number : clock < 3 → cycles ≤ 2 → bit (comesOf clock divider cycles pulse) ≡ pulsesOf (periodOf clock) divider cycles
+  -- with the INT clock the pulses are the pulse bit
+  pub pin : pulse ≤ 1 → bit (comesOf 3 divider cycles pulse) ≡ pulse
 
 -- the peripherals so many cycles after reset, while nothing is written to 11H or to the modulo register
 pub record Since (cycles : ℕ) (p : Peripherals) : Type 0 where
@@ -76,3 +78,14 @@ pub record CountLaws (p : Peripherals) (ts : List Tick) : Type 0 where
   pub counted : isOn (p .registers) TM TMEN ≡ true → p .counter ≡ 0 → afterTicks ts p .counter ≡ pulsed (p .modulo) (pulsesIn ts p)
   pub stopped : isOn (p .registers) TM TMEN ≡ false → afterTicks ts p .counter ≡ p .counter
   pub running : p .divider < 128 → afterTicks ts p .divider ≡ (p .divider + cyclesIn ts) % 128
+
+-- so many pulses from counter 0, with a mode and a modulo that stay
+pub record Counting (mode modulo n : ℕ) (p : Peripherals) : Type 0 where
+  pub same-mode : getD (p .registers) TM 0 ≡ mode
+  pub same-modulo : p .modulo ≡ modulo
+  pub counter : p .counter ≡ pulsed modulo n
+
+pub record CountingLaws : Type 0 where
+  pub tick : (mode modulo n cycles pulse : ℕ) (p : Peripherals) → isOn (p .registers) TM TMEN ≡ true → Counting mode modulo n p
+      → Counting mode modulo (n + bit (comesOf (clockOf (p .registers)) (p .divider) cycles pulse)) (tickOf p cycles pulse)
+  pub poke : (mode modulo n rf v : ℕ) (p : Peripherals) → (rf ≡ 0x11 → ⊥) → Counting mode modulo n p → Counting mode modulo n (pokeOf p rf v)

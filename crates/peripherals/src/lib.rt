@@ -1,17 +1,21 @@
-// The control registers for ports and timer, the modulo register, the counter and its clock divider: document 02, E4. All by
-// value, and total: what a step refuses is told by the caller, from `is_control` and `in_range`.
+// The control registers for ports and timer, the modulo register, the counter and its clock divider: document 02, E4. All is
+// total: what a step refuses is told by the caller, from `in_file`, TMC and TMM, and `in_range`.
+mod clock;
+mod parts;
 mod ports;
 mod ranges;
 mod registers;
-mod timer;
 
+pub use clock::pace;
+pub use clock::tick;
+pub use clock::with_modulo;
+pub use parts::join;
+pub use parts::timer_of;
 pub use ports::directions;
 pub use ranges::in_range;
-pub use registers::is_control;
+pub use registers::in_file;
 pub use registers::peek;
 pub use registers::poke;
-pub use timer::tick;
-pub use timer::with_modulo;
 ghost use mathlib.Core.Path.{_≡_};
 ghost use Rattle.peripherals.specs.Registers.{resetPeripherals};
 
@@ -23,6 +27,16 @@ pub struct Peripherals {
     pub counter: u8,
     // Cycles since reset, modulo 128.
     pub divider: u8,
+}
+
+// The peripherals without their registers, which stand apart while the machine steps.
+pub struct Timer {
+    pub modulo: u8,
+    pub counter: u8,
+    pub divider: u8,
+    // So many cycles move the divider and nothing else; 0 where that is not known. Two bytes, since the compiler takes four fields of
+    // one for one number, and packs it in every step.
+    pub quiet: u16,
 }
 
 impl Peripherals {
@@ -49,6 +63,14 @@ impl Peripherals {
     pub const TMOSEL: u8 = 0b0001;
 
     pub const GROUP: u8 = 0b0001;
+
+    // The peripherals: GET reads the counter, PUT writes the modulo register.
+    pub const TMC: u8 = 0x02;
+
+    pub const TMM: u8 = 0x03;
+
+    // From here on the register file is data memory.
+    pub const DATA: u8 = 0x40;
 
     // The timer runs with fx/256, and every pin is an input.
     pub fn reset() -> Peripherals

@@ -25,10 +25,9 @@ fn with_timer(registers: [u8; 7]) -> u8
 }
 
 // Of P0A to P0E, as the input record has its pins.
-pub fn directions(p: Peripherals) -> [u8; 5]
-    ensures { λ r. ⌜ r ≡ directionsOf (p .registers) ⌝ }
+pub fn directions(registers: [u8; 7]) -> [u8; 5]
+    ensures { λ r. ⌜ r ≡ directionsOf registers ⌝ }
 {
-    let registers = p.registers;
     let b = group(registers);
     let d = with_timer(registers);
     [

@@ -2,8 +2,12 @@
 ghost use mathlib.Core.Path.{_≡_};
 ghost use Prim.Native.Nat.{_<_};
 ghost use Rattle.peripherals.specs.Table.{staysAt};
-ghost use Rattle.peripherals.specs.Registers.{placeOf, isControl, peekOf, clearedOf, pokeOf};
+ghost use Rattle.peripherals.specs.Registers.{placeOf, isControl, inFile, peekOf, clearedOf, pokeOf};
+ghost use Rattle.peripherals.specs.Parts.{withTimer};
 use crate::Peripherals;
+use crate::Timer;
+use crate::parts::join;
+use crate::parts::timer_of;
 
 // The bits that stay at each place.
 const MASKS: [u8; 7] = [0b1011, 0b0001, 0b0001, 0b0011, 0b1111, 0b1111, 0b1111];
@@ -32,22 +36,31 @@ pub(crate) fn mask(at: usize) -> u8
 }
 
 // Whether there is a control register with this address.
-pub fn is_control(rf: u8) -> bool
+fn is_control(rf: u8) -> bool
     ensures { λ r. ⌜ r ≡ isControl rf ⌝ }
 {
     place(rf) < 7
 }
 
+// Whether the register file has this address: data memory, and the control registers.
+pub fn in_file(rf: u8) -> bool
+    ensures { λ r. ⌜ r ≡ inFile rf ⌝ }
+{
+    if Peripherals::DATA <= rf {
+        return true;
+    }
+    is_control(rf)
+}
+
 // The register with this address, or 0 where there is none.
-pub fn peek(p: Peripherals, rf: u8) -> u8
-    ensures { λ r. ⌜ r ≡ peekOf p rf ⌝ }
+pub fn peek(registers: [u8; 7], rf: u8) -> u8
+    ensures { λ r. ⌜ r ≡ peekOf registers rf ⌝ }
 {
     let at = place(rf);
     if 7 <= at {
         return 0;
     }
-    let held = p.registers;
-    held[at]
+    registers[at]
 }
 
 // The counter after a write: 0 where the write has TMRES.
@@ -64,7 +77,7 @@ fn cleared(at: usize, v: u8, counter: u8) -> u8
 }
 
 // The register with this address written; where there is none nothing changes.
-pub fn poke(p: Peripherals, rf: u8, v: u8) -> Peripherals
+fn poked(p: Peripherals, rf: u8, v: u8) -> Peripherals
     ensures { λ r. ⌜ r ≡ pokeOf p rf v ⌝ }
 {
     let at = place(rf);
@@ -80,4 +93,14 @@ pub fn poke(p: Peripherals, rf: u8, v: u8) -> Peripherals
         counter,
         divider: p.divider,
     }
+}
+
+// The same on the registers where they stand, with the timer after it.
+pub fn poke(registers: &mut [u8; 7], timer: Timer, rf: u8, v: u8) -> Timer
+    ensures { λ r. ⌜ (withTimer (now (registers .exit)) r ≡ pokeOf (withTimer (now (registers .entry)) timer) rf v) × (r .quiet ≡ 0) ⌝ }
+{
+    let p = poked(join(*registers, timer), rf, v);
+    let held = p.registers;
+    *registers = held;
+    timer_of(p)
 }

@@ -4,7 +4,7 @@ use mathlib.Core.Path.{_≡_, _∙_, ap, refl}
 use mathlib.Core.List.{List}
 use Prim.Native.Nat.{ℕ}
 use Rattle.memory.specs.Chip.{upd17132}
-use Rattle.machine.specs.declared.Input.{Input}
+use Rattle.machine.specs.Signals.{Signals}
 use Rattle.machine.specs.declared.Machine.{Machine}
 use Rattle.cpu.specs.Answers.{replyNumber}
 use Rattle.cpu.specs.Reply.{Reply, done, inStandby, refused, Step}
@@ -19,7 +19,7 @@ by-reply done m s e k zero-not last-not = absurd (zero-not (ap replyNumber e))
 by-reply inStandby m s e k zero-not last-not = absurd (last-not (ap replyNumber e))
 by-reply (refused n) m s e k zero-not last-not = k n e
 
-pub kept : (rom : List ℕ) (i : Input) (m : Machine) (x : LentStep) → x ≡ lentStepOf (stepOf upd17132 rom i m)
+pub kept : (rom : List ℕ) (i : Signals) (m : Machine) (x : LentStep) → x ≡ lentStepOf (stepOf upd17132 rom i m)
     → (x .number ≡ 0 → ⊥) → (x .number ≡ 255 → ⊥) → x .machine ≡ m
 kept rom i m x e zero-not last-not =
     let s = stepOf upd17132 rom i m in

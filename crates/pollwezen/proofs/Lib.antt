@@ -1,3 +1,4 @@
+pub mod Places
 pub mod Behind
 pub mod Kept
 pub mod Checks

@@ -18,6 +18,7 @@ use denote.Triple.Clauses.{AtExit}
 use denote.Triple.Entry.{Args, Res}
 use Rattle.memory.specs.Chip.{upd17132}
 use Rattle.machine.specs.Parts.{resetMachine}
+use Rattle.machine.specs.Signals.{signals}
 use Rattle.cpu.specs.Run.{runOf}
 use Rattle.cpu.specs.Step.{stepOf}
 use Rattle.clearance.specs.Safe.{Safe}
@@ -75,7 +76,7 @@ module _ {M : Type 1} (𝓤 : URA M) (H : Heap 𝓤) (A : Atoms 𝓤) (mem : Mem
     abbrev Step : SProp 𝓤
     Step = step.clauses 𝓤 H A mem runs κs a .ensures tt r e
 
-    pub step-leaves : ent 𝓤 Step (fact 𝓤 (lentStep (now (e .1 .0)) r ≡ lentStepOf (stepOf upd17132 (now (a .0)) (a .1 .1 .0) (now (a .1 .0)))))
+    pub step-leaves : ent 𝓤 Step (fact 𝓤 (lentStep (now (e .1 .0)) r ≡ lentStepOf (stepOf upd17132 (now (a .0)) (signals (a .1 .1 .0) (a .1 .1 .1 .0)) (now (a .1 .0)))))
     step-leaves = follows (λ p. p .0)
 
     pub step-keeps : ent 𝓤 Step (fact 𝓤 ((r ≡ 0 → ⊥) → (r ≡ 255 → ⊥) → now (e .1 .0) ≡ now (a .1 .0)))
@@ -83,7 +84,7 @@ module _ {M : Type 1} (𝓤 : URA M) (H : Heap 𝓤) (A : Atoms 𝓤) (mem : Mem
 
   module _ (κs : Lfts 2) (a : Args run.signature κs) (r : Res run.signature κs) (e : AtExit run.ended κs) where
     pub run-leaves : ent 𝓤 (run.clauses 𝓤 H A mem runs κs a .ensures tt r e)
-        (fact 𝓤 (lentRun (now (e .1 .0)) r ≡ lentRunOf (runOf upd17132 (now (a .0)) (a .1 .1 .0) (a .1 .1 .1 .0) (now (a .1 .0)))))
+        (fact 𝓤 (lentRun (now (e .1 .0)) r ≡ lentRunOf (runOf upd17132 (now (a .0)) (signals (a .1 .1 .0) (a .1 .1 .1 .0)) (a .1 .1 .1 .1 .0) (now (a .1 .0)))))
     run-leaves = follows (λ p. p)
 
   module _ (κs : Lfts 2) (a : Args verify.signature κs) (r : Res verify.signature κs) (e : AtExit verify.ended κs) where

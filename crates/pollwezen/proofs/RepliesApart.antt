@@ -1,18 +1,19 @@
 -- Each answer comes back from its reply, so the replies lose nothing.
 -- Assumes nothing.
-use mathlib.Core.Path.{_≡_, _∙_, ap, refl}
-use mathlib.Core.Bool.{cond}
+use mathlib.Core.Path.{_≡_, _∙_, ap, refl, sym}
+use mathlib.Core.Bool.{Bool, true, false, cond, _&&_, false≢true}
 use mathlib.Mathlib.Logic.Function.Defs.{LeftInverse·injective}
-use Prim.Native.Nat.{ℕ, _≤_}
+use Prim.Native.Nat.{ℕ}
 use native.Mathlib.Omega.{arith}
 use borrow.Author.Tests.{ne-eqb}
-use lib.Dec.{eqb, lit≤}
+use lib.Dec.{eqb, leb}
 use Rattle.machine.specs.Refusals.{numberOf}
 use Rattle.machine.specs.declared.Refusal.{Refusal}
-use Rattle.machine.specs.declared.Refusal.the-variants.{OutOfRange, PastRom, NoInstruction, Unsupported, BadTarget, StackFull, StackEmpty, PastTable}
+use Rattle.machine.specs.declared.Refusal.the-variants.{OutOfRange, PastRom, NoInstruction, Unsupported, NoRegister, BadTarget, StackFull, StackEmpty, PastTable}
 use Rattle.station_file.proofs.FileNumbers.{numbered, numbered-again, file-number}
 use Rattle.station_file.specs.Answers.{fileNumber, readReply, writeReply}
 use Rattle.station_file.specs.declared.FileRefusal.{FileRefusal}
+use Rattle.station_file.specs.declared.FileRefusal.the-variants.{Form, Early, Count, Entry, After, Room}
 use Rattle.station_file.specs.declared.Loaded.{Loaded}
 use Rattle.station_file.specs.declared.Loaded.the-variants as loaded
 use Rattle.station_file.specs.declared.Written.{Written}
@@ -67,15 +68,28 @@ unfolding printedIn
 printed-back (Text n) = refl
 printed-back TooShort = refl
 
-machine-number : (q : Refusal) → numberOf q ≤ 8
-machine-number OutOfRange = lit≤ tt
-machine-number PastRom = lit≤ tt
-machine-number NoInstruction = lit≤ tt
-machine-number Unsupported = lit≤ tt
-machine-number BadTarget = lit≤ tt
-machine-number StackFull = lit≤ tt
-machine-number StackEmpty = lit≤ tt
-machine-number PastTable = lit≤ tt
+-- a file's numbers are 20 to 25, and none of the machine's is
+abbrev isFile : ℕ → Bool
+isFile n = leb 20 n && leb n 25
+
+of-file : (f : FileRefusal) → isFile (fileNumber f) ≡ true
+of-file Form = refl
+of-file Early = refl
+of-file Count = refl
+of-file Entry = refl
+of-file After = refl
+of-file Room = refl
+
+not-of-file : (q : Refusal) → isFile (numberOf q) ≡ false
+not-of-file OutOfRange = refl
+not-of-file PastRom = refl
+not-of-file NoInstruction = refl
+not-of-file Unsupported = refl
+not-of-file NoRegister = refl
+not-of-file BadTarget = refl
+not-of-file StackFull = refl
+not-of-file StackEmpty = refl
+not-of-file PastTable = refl
 
 pub replies-apart : RepliesApart
 replies-apart = record {
@@ -83,5 +97,5 @@ replies-apart = record {
   reads = LeftInverse·injective loadedIn (λ (l : Loaded). readReplyOf (readReply l)) loaded-back;
   writes = LeftInverse·injective writtenIn (λ (w : Written). writeReplyOf (writeReply w)) written-back;
   prints = LeftInverse·injective printedIn (λ (p : Printed). printReplyOf (printReply p)) printed-back;
-  numbers = λ a b e. omega (arith, machine-number a, file-number b, e);
+  numbers = λ a b e. absurd (false≢true (sym (not-of-file a) ∙ ap isFile e ∙ of-file b));
 }

@@ -1,6 +1,7 @@
 // The step by parts and the run by value, with the numbers that the entries answer.
 ghost use mathlib.Core.Path.{_≡_};
 ghost use Rattle.memory.specs.Chip.{upd17132};
+ghost use Rattle.machine.specs.Signals.{signals};
 ghost use Rattle.cpu.specs.Run.{runOf};
 ghost use Rattle.cpu.specs.Step.{stepOf};
 ghost use Rattle.pollwezen.specs.Lent.{lentRunOf, lentStepOf};
@@ -11,13 +12,15 @@ use machine::Control;
 use machine::Input;
 use machine::Machine;
 use memory::Memory;
+use peripherals::Peripherals;
 
-// The same control part. One that is copied as a whole, as bytes, waits for the stores of its single fields; that counts in a
+// The same control part. What is copied as a whole, as bytes, waits for the stores of its single fields and places; that counts in a
 // single step, and not in a run.
 fn by_fields(control: Control) -> Control
     ensures { λ r. ⌜ r ≡ control ⌝ }
 {
-    let stack = control.stack;
+    let held = control.stack;
+    let stack = [held[0], held[1], held[2], held[3], held[4]];
     Control {
         pc: control.pc,
         stack: stack,
@@ -27,25 +30,69 @@ fn by_fields(control: Control) -> Control
     }
 }
 
-pub(crate) fn step_by_parts(rom: &[u16], memory: Memory, control: Control, input: Input) -> LentStep
-    ensures { λ r. ⌜ r ≡ lentStepOf (stepOf upd17132 (now (rom .entry)) input (record { memory = memory; control = control })) ⌝ }
+// The same peripherals, for the same reason.
+fn by_registers(p: Peripherals) -> Peripherals
+    ensures { λ r. ⌜ r ≡ p ⌝ }
+{
+    let held = p.registers;
+    let registers = [
+        held[0],
+        held[1],
+        held[2],
+        held[3],
+        held[4],
+        held[5],
+        held[6],
+    ];
+    Peripherals {
+        registers: registers,
+        modulo: p.modulo,
+        counter: p.counter,
+        divider: p.divider,
+    }
+}
+
+pub(crate) fn step_by_parts(
+    rom: &[u16],
+    memory: Memory,
+    peripherals: Peripherals,
+    control: Control,
+    input: Input,
+    pulse: u8,
+) -> LentStep
+    ensures { λ r. ⌜ r ≡ lentStepOf (stepOf upd17132 (now (rom .entry)) (signals input pulse) (record { memory = memory; peripherals = peripherals; control = control })) ⌝ }
 {
     let mut cells = memory.cells;
-    let s = cpu::step_in_place(rom, &mut cells, by_fields(control), input);
+    let s = cpu::step_in_place(
+        rom,
+        &mut cells,
+        peripherals,
+        by_fields(control),
+        input,
+        pulse,
+    );
     let answer = s.answer;
+    let after = s.peripherals;
     LentStep {
         machine: Machine {
             memory: Memory { cells: cells },
+            peripherals: by_registers(after),
             control: by_fields(s.control),
         },
         number: answer.number(),
     }
 }
 
-pub(crate) fn run_by_value(rom: &[u16], machine: Machine, input: Input, budget: u32) -> LentRun
-    ensures { λ r. ⌜ r ≡ lentRunOf (runOf upd17132 (now (rom .entry)) input budget machine) ⌝ }
+pub(crate) fn run_by_value(
+    rom: &[u16],
+    machine: Machine,
+    input: Input,
+    pulse: u8,
+    budget: u32,
+) -> LentRun
+    ensures { λ r. ⌜ r ≡ lentRunOf (runOf upd17132 (now (rom .entry)) (signals input pulse) budget machine) ⌝ }
 {
-    let r = cpu::run(rom, machine, input, budget);
+    let r = cpu::run(rom, machine, input, pulse, budget);
     let after = r.machine;
     let count = r.count;
     let end = r.end;

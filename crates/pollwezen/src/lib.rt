@@ -10,6 +10,7 @@ ghost use Prim.Native.Nat.{_≤_};
 ghost use lib.ListN.{length};
 ghost use Rattle.memory.specs.Chip.{upd17132};
 ghost use Rattle.machine.specs.Parts.{resetMachine};
+ghost use Rattle.machine.specs.Signals.{signals};
 ghost use Rattle.cpu.specs.Run.{runOf};
 ghost use Rattle.cpu.specs.Step.{stepOf};
 ghost use Rattle.clearance.specs.Safe.{Safe};
@@ -84,13 +85,21 @@ pub extern "C" fn pollwezen_reset() -> Machine
     Machine::reset()
 }
 
-// One step on the lent record: 0 for a completed step, 255 for one that stays in standby, else the refusal.
+// One step on the lent record, with the pulse bit beside its inputs: 0 for a completed step, 255 for one that stays in standby, else
+// the refusal.
 #[no_mangle]
-pub extern "C" fn pollwezen_step(rom: &[u16], machine: &mut Machine, input: Input) -> u8
-    ensures { λ r. ⌜ (lentStep (now (machine .exit)) r ≡ lentStepOf (stepOf upd17132 (now (rom .entry)) input (now (machine .entry))))
+pub extern "C" fn pollwezen_step(rom: &[u16], machine: &mut Machine, input: Input, pulse: u8) -> u8
+    ensures { λ r. ⌜ (lentStep (now (machine .exit)) r ≡ lentStepOf (stepOf upd17132 (now (rom .entry)) (signals input pulse) (now (machine .entry))))
         × ((r ≡ 0 → ⊥) → (r ≡ 255 → ⊥) → now (machine .exit) ≡ now (machine .entry)) ⌝ }
 {
-    let s = step_by_parts(rom, machine.memory, machine.control, input);
+    let s = step_by_parts(
+        rom,
+        machine.memory,
+        machine.peripherals,
+        machine.control,
+        input,
+        pulse,
+    );
     *machine = s.machine;
     s.number
 }
@@ -101,11 +110,12 @@ pub extern "C" fn pollwezen_run(
     rom: &[u16],
     machine: &mut Machine,
     input: Input,
+    pulse: u8,
     budget: u32,
 ) -> RunReply
-    ensures { λ r. ⌜ lentRun (now (machine .exit)) r ≡ lentRunOf (runOf upd17132 (now (rom .entry)) input budget (now (machine .entry))) ⌝ }
+    ensures { λ r. ⌜ lentRun (now (machine .exit)) r ≡ lentRunOf (runOf upd17132 (now (rom .entry)) (signals input pulse) budget (now (machine .entry))) ⌝ }
 {
-    let r = run_by_value(rom, *machine, input, budget);
+    let r = run_by_value(rom, *machine, input, pulse, budget);
     *machine = r.machine;
     r.reply
 }

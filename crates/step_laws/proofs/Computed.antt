@@ -13,7 +13,10 @@ use Rattle.memory.specs.Range.{cellsInRange}
 use Rattle.memory.specs.Read.{mixOf, portOf, readOf}
 use Rattle.memory.specs.Registers.{arOf}
 use Rattle.memory.specs.Write.{keptOf, writeOf, writesApplied}
-use Rattle.machine.specs.Ranges.{controlInRange, marksInRange, machineInRange, inputInRange, romInRange, allInRange}
+use Rattle.peripherals.specs.Range.{peripheralsInRange}
+use Rattle.peripherals.specs.Registers.{resetPeripherals}
+use Rattle.peripherals.specs.Table.{controlRegisters}
+use Rattle.machine.specs.Ranges.{controlInRange, marksInRange, machineInRange, inputInRange, signalsInRange, romInRange, allInRange}
 use Rattle.control.specs.Control.{onwardOf, controlOf}
 use Rattle.operations.specs.Operands.{addressIn, addressesOf}
 use Rattle.operations.specs.Writes.{flagsAfter, arithmeticWrites, resultWrites, rotateWrites, aluWrites, transferWrites, writesAt, writesOf, holdsAt, holdsOf}
@@ -22,5 +25,5 @@ use Rattle.cpu.specs.Step.{fetchOf, advanceOf, stepOf}
 use Rattle.step_laws.specs.Cases.{Cases}
 
 pub twelve-cases : Cases
-unfolding decodeOf entryOf overview columns encodeOf fits wordOf above19 above9 below-10 decimalSum decimalDifference differenceOf binarySum binaryDifference addOf subtractOf operateOf rotateOf zeroOf ixOf addressOf registerOf indirectOf isSet withFlag masks17132 cellsInRange mixOf portOf readOf arOf keptOf writeOf writesApplied controlInRange marksInRange machineInRange inputInRange romInRange allInRange onwardOf controlOf addressIn addressesOf flagsAfter arithmeticWrites resultWrites rotateWrites aluWrites transferWrites writesAt writesOf holdsAt holdsOf pastTable writtenOf transferBy executeOf fetchOf advanceOf stepOf
+unfolding decodeOf entryOf overview columns encodeOf fits wordOf above19 above9 below-10 decimalSum decimalDifference differenceOf binarySum binaryDifference addOf subtractOf operateOf rotateOf zeroOf ixOf addressOf registerOf indirectOf isSet withFlag masks17132 cellsInRange mixOf portOf readOf arOf keptOf writeOf writesApplied peripheralsInRange resetPeripherals controlRegisters controlInRange marksInRange machineInRange inputInRange signalsInRange romInRange allInRange onwardOf controlOf addressIn addressesOf flagsAfter arithmeticWrites resultWrites rotateWrites aluWrites transferWrites writesAt writesOf holdsAt holdsOf pastTable writtenOf transferBy executeOf fetchOf advanceOf stepOf
 twelve-cases = refl

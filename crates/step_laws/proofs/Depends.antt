@@ -1,4 +1,4 @@
--- An instruction depends on no cell but those that it goes by.
+-- An instruction depends on nothing but what it goes by and what it reads.
 -- Assumes nothing.
 use mathlib.Core.Path.{_≡_, _∙_, ap, ap₂, refl, sym}
 use mathlib.Core.Bool.{Bool, true, false, not, cond}
@@ -20,21 +20,25 @@ use Rattle.memory.specs.Address.{rowOf, ixOf, addressOf, registerOf, indirectOf
 use Rattle.memory.specs.Cells.{cellAt, isSet}
 use Rattle.memory.specs.Chip.{Chip}
 use Rattle.memory.specs.Names.{IXH, IXM, IXL, RPL, PSW, CMP, CY, Z, BCD}
-use Rattle.memory.specs.Read.{readOf, portOf}
 use Rattle.memory.specs.Registers.{arOf}
-use Rattle.machine.specs.Parts.{cellsOf, withCells}
+use Rattle.machine.specs.Parts.{cellsOf, machineOf}
 use Rattle.machine.specs.declared.Control.{Control}
-use Rattle.machine.specs.declared.Input.{Input}
+use Rattle.machine.specs.Signals.{Signals}
 use Rattle.machine.specs.declared.Machine.{Machine}
 use Rattle.control.specs.Control.{Transfer, controlOf, topOf}
-use Rattle.control.specs.Flow.{flowOf}
-use Rattle.operations.specs.Data.{Data, dataAt, readAt}
-use Rattle.operations.specs.Operands.{Operand, none, direct, register, indirect, ar, impliedByAlu, impliedBySkip, operandsOf, addressIn, addressesOf}
-use Rattle.operations.specs.Writes.{flagsAfter, arithmeticWrites, resultWrites, rotateWrites, skipWrites, aluWrites, transferWrites, writesAt, writesOf, holdsAt, holdsOf}
+use Rattle.control.specs.Flow.{onwardIf, flowOf}
+use Rattle.peripherals.specs.Registers.{inFile}
+use Rattle.peripherals.specs.Table.{TMC, TMM}
+use Rattle.peripherals.specs.declared.Peripherals.{Peripherals}
+use Rattle.operations.specs.Data.{Data, Sources, readAt}
+use Rattle.operations.specs.Operands.{Operand, none, direct, register, indirect, file, ar, impliedByAlu, impliedBySkip, operandsOf, addressIn, addressesOf}
+use Rattle.operations.specs.Settings.{settingsOf}
+use Rattle.operations.specs.Writes.{flagsAfter, arithmeticWrites, resultWrites, rotateWrites, skipWrites, pokeWrites, aluWrites, transferWrites, fileAt, writesAt, writesOf, holdsAt, holdsOf}
 use Rattle.operations.specs.declared.Addresses.{Addresses}
-use Rattle.cpu.specs.Execute.{dataOf, pastTable, transferBy, executeOf}
+use Rattle.cpu.specs.Execute.{dataOf, sourcesOf, pastTable, transferBy, executeOf}
 use Rattle.cpu.specs.Reply.{Reply, done, refused, completedStep, refusedStep}
-use Rattle.step_laws.specs.ReadLaw.{addressedBy, ReadsResult, alu-r, alu-m, rorc, AgreeAt, ReadLaw}
+use Rattle.step_laws.specs.ReadLaw.{addressedBy, ReadsResult, alu-r, alu-m, rorc, AgreeAt, ReadAlike, Pointed, Agree, ReadLaw}
+use Rattle.step_laws.specs.StepLaws.{writesBy}
 
 module _ (c o : List ℕ) where
   abbrev Agrees : ℕ → Type 0
@@ -88,27 +92,45 @@ module _ (c o : List ℕ) where
   skip-same Skge h = refl
   skip-same Sklt h = refl
 
--- the same pins and directions, and other cells
-module _ (chip : Chip) (pins directions c o : List ℕ) where
-  abbrev d : Data
-  d = dataAt c pins directions
+  -- what an instruction sets it takes from cells that it implies
+  settings-same : (i : Instruction) → AgreeAt (operandsOf i .implied) c o → (p : Peripherals) → settingsOf c p i ≡ settingsOf o p i
+  unfolding settingsOf
+  settings-same (AluRegister op r m) h p = refl
+  settings-same (AluImmediate op m n4) h p = refl
+  settings-same (Skip op m n4) h p = refl
+  settings-same (Rorc r) h p = refl
+  settings-same (Ld r m) h p = refl
+  settings-same (St m r) h p = refl
+  settings-same (MovToIndirect r m) h p = refl
+  settings-same (MovFromIndirect m r) h p = refl
+  settings-same (MovImmediate m n4) h p = refl
+  settings-same (Peek rf) h p = refl
+  settings-same (Poke rf) h p = rw (h .0)
+  settings-same (Get at) h p = refl
+  settings-same (Put at) h p = rw (h .0, h .1 .0)
+  settings-same (Br addr) h p = refl
+  settings-same (Call addr) h p = refl
+  settings-same (Stop s) h p = refl
+  settings-same (Halt s) h p = refl
+  settings-same (Fixed op) h p = refl
 
-  abbrev e : Data
-  e = dataAt o pins directions
+module _ (chip : Chip) (d e : Data) where
+  abbrev c : List ℕ
+  c = d .cells
 
-  read-same : (at : ℕ) → Agrees c o at → readAt chip d at ≡ readAt chip e at
-  unfolding readOf portOf
-  read-same at x = rw x
+  abbrev o : List ℕ
+  o = e .cells
 
   -- an operand stands at the same address
-  operand-same : (w : Operand) → AgreeAt (addressedBy chip d w) c o → addressIn chip d w ≡ addressIn chip e w
+  operand-same : (w : Operand) → AgreeAt (addressedBy w) c o → Pointed chip d e w → addressIn chip d w ≡ addressIn chip e w
   unfolding addressIn
-  operand-same none h = refl
-  operand-same (direct m) h = address-same c o m (h .0) (h .1 .0) (h .1 .1 .0)
-  operand-same (register r) h = register-same c o r (h .0)
-  operand-same (indirect m r) h =
-      let column = read-same (registerOf c r) (h .1 .1 .1 .1 .1 .0) ∙ ap (readAt chip e) (register-same c o r (h .1 .1 .1 .1 .0)) in
+  operand-same none h x = refl
+  operand-same (direct m) h x = address-same c o m (h .0) (h .1 .0) (h .1 .1 .0)
+  operand-same (register r) h x = register-same c o r (h .0)
+  operand-same (indirect m r) h x =
+      let column = x ∙ ap (readAt chip e) (register-same c o r (h .1 .1 .1 .1 .0)) in
       indirect-same c o m _ _ (h .1 .0) (h .1 .1 .0) (address-same c o m (h .0) (h .1 .1 .0) (h .1 .1 .1 .0)) column
+  operand-same (file rf) h x = refl
 
   -- an operation on what stands at an address
   operated : (op : AluOp) (at b b' : ℕ) → readAt chip d at ≡ readAt chip e at → b ≡ b' → Agrees c o PSW → Agrees c o RPL
@@ -127,12 +149,18 @@ module _ (chip : Chip) (pins directions c o : List ℕ) where
   alu-same And at b b' x y h = rw (x, y)
   alu-same Xor at b b' x y h = rw (x, y)
 
-  -- by addresses at which both hold the same
-  module _ (rom : List ℕ) (control : Control) (a : Addresses) (top : ℕ) (from : readAt chip d (a .from) ≡ readAt chip e (a .from)) where
+  -- by addresses at which both read the same
+  module _ (rom : List ℕ) (control : Control) (a : Addresses) (top counter other : ℕ) where
+    abbrev src : Sources
+    src = record { top = top; word = getD rom (arOf c) 0; counter = counter }
+
+    abbrev src' : Sources
+    src' = record { top = top; word = getD rom (arOf o) 0; counter = other }
+
     -- the writes, the condition, where control goes, and refusal 8
     abbrev Alike : Instruction → Type 0
     Alike i =
-        (writesAt chip d a i top (getD rom (arOf c) 0) ≡ writesAt chip e a i top (getD rom (arOf o) 0))
+        (writesAt chip d a i src ≡ writesAt chip e a i src')
         × ((holdsAt chip d a i ≡ holdsAt chip e a i)
         × (((holds : Bool) → controlOf chip (flowOf i) holds (arOf c) control ≡ controlOf chip (flowOf i) holds (arOf o) control)
         × (pastTable rom (arOf c) (flowOf i) ≡ pastTable rom (arOf o) (flowOf i))))
@@ -141,43 +169,49 @@ module _ (chip : Chip) (pins directions c o : List ℕ) where
     plain : {A B C : Type 0} {w x : A} {p : B} {q : Bool → C} {r : Bool} → w ≡ x → (w ≡ x) × ((p ≡ p) × (((b : Bool) → q b ≡ q b) × (r ≡ r)))
     plain w = (w, (refl, (λ b. refl, refl)))
 
-    alike : (i : Instruction) → (ReadsResult i → readAt chip d (a .to) ≡ readAt chip e (a .to)) → AgreeAt (operandsOf i .implied) c o → Alike i
-    unfolding writesAt holdsAt controlOf pastTable transferWrites
-    alike (AluRegister op r m) to h = plain (alu-same op (a .to) _ _ (to (alu-r op r m)) from h)
-    alike (AluImmediate op m n4) to h = plain (alu-same op (a .to) n4 n4 (to (alu-m op m n4)) refl h)
-    alike (Skip op m n4) to h = (skip-same c o op h, (ap (λ (x : ℕ). conditionOf op x n4) from, (λ b. refl, refl)))
-    alike (Rorc r) to h = plain (rw (set-same c o PSW CY (h .0), to (rorc r)) (rotate-same c o (a .to) _ (h .0)))
-    alike (Ld r m) to h = plain (rw from)
-    alike (St m r) to h = plain (rw from)
-    alike (MovToIndirect r m) to h = plain (rw from)
-    alike (MovFromIndirect m r) to h = plain (rw from)
-    alike (MovImmediate m n4) to h = plain refl
-    alike (Peek rf) to h = plain refl
-    alike (Poke rf) to h = plain refl
-    alike (Get p) to h = plain refl
-    alike (Put p) to h = plain refl
-    alike (Br addr) to h = plain refl
-    alike (Call addr) to h = plain refl
-    alike (Stop s) to h = plain refl
-    alike (Halt s) to h = plain refl
-    alike (Fixed IncAr) to h = plain (rw (ar-same c o h))
-    alike (Fixed IncIx) to h = plain (rw (ix-same c o (h .1 .0) (h .1 .1 .0), h .0))
-    alike (Fixed Movt) to h = rw (ar-same c o h) (plain refl)
-    alike (Fixed PushAr) to h = rw (ar-same c o h) (plain refl)
-    alike (Fixed PopAr) to h = plain refl
-    alike (Fixed BrAr) to h = rw (ar-same c o h) (plain refl)
-    alike (Fixed CallAr) to h = rw (ar-same c o h) (plain refl)
-    alike (Fixed Ret) to h = plain refl
-    alike (Fixed Retsk) to h = plain refl
-    alike (Fixed Reti) to h = plain refl
-    alike (Fixed Ei) to h = plain refl
-    alike (Fixed Di) to h = plain refl
-    alike (Fixed Nop) to h = plain refl
+    -- one that goes on or is refused by its word alone
+    by-word : {A B : Type 0} {w x : A} {p : B} (b : Bool) → w ≡ x
+        → (w ≡ x)
+        × ((p ≡ p)
+        × (((holds : Bool) → controlOf chip (onwardIf b) holds (arOf c) control ≡ controlOf chip (onwardIf b) holds (arOf o) control)
+        × (pastTable rom (arOf c) (onwardIf b) ≡ pastTable rom (arOf o) (onwardIf b))))
+    unfolding controlOf pastTable
+    by-word true w = (w, (refl, (λ b. refl, refl)))
+    by-word false w = (w, (refl, (λ b. refl, refl)))
 
-  addresses-same : (i : Instruction) → AgreeAt (addressedBy chip d (operandsOf i .to)) c o → AgreeAt (addressedBy chip d (operandsOf i .from)) c o
-      → addressesOf chip d i ≡ addressesOf chip e i
-  unfolding addressesOf
-  addresses-same i t f = rw (operand-same (operandsOf i .to) t, operand-same (operandsOf i .from) f)
+    alike : (i : Instruction) → ReadAlike chip d e (a .from) → (ReadsResult i → ReadAlike chip d e (a .to)) → AgreeAt (operandsOf i .implied) c o
+        → ((rf : ℕ) → i ≡ Peek rf → fileAt chip d rf ≡ fileAt chip e rf) → ((p : ℕ) → i ≡ Get p → counter ≡ other) → Alike i
+    unfolding writesAt holdsAt controlOf pastTable transferWrites pokeWrites
+    alike (AluRegister op r m) from to h peeked got = plain (alu-same op (a .to) _ _ (to (alu-r op r m)) from h)
+    alike (AluImmediate op m n4) from to h peeked got = plain (alu-same op (a .to) n4 n4 (to (alu-m op m n4)) refl h)
+    alike (Skip op m n4) from to h peeked got = (skip-same c o op h, (ap (λ (x : ℕ). conditionOf op x n4) from, (λ b. refl, refl)))
+    alike (Rorc r) from to h peeked got = plain (rw (set-same c o PSW CY (h .0), to (rorc r)) (rotate-same c o (a .to) _ (h .0)))
+    alike (Ld r m) from to h peeked got = plain (rw from)
+    alike (St m r) from to h peeked got = plain (rw from)
+    alike (MovToIndirect r m) from to h peeked got = plain (rw from)
+    alike (MovFromIndirect m r) from to h peeked got = plain (rw from)
+    alike (MovImmediate m n4) from to h peeked got = plain refl
+    alike (Peek rf) from to h peeked got = by-word (inFile rf) (rw (peeked rf refl))
+    alike (Poke rf) from to h peeked got = by-word (inFile rf) (rw (h .0))
+    alike (Get p) from to h peeked got = by-word (eqb p TMC) (rw (got p refl))
+    alike (Put p) from to h peeked got = by-word (eqb p TMM) refl
+    alike (Br addr) from to h peeked got = plain refl
+    alike (Call addr) from to h peeked got = plain refl
+    alike (Stop s) from to h peeked got = plain refl
+    alike (Halt s) from to h peeked got = plain refl
+    alike (Fixed IncAr) from to h peeked got = plain (rw (ar-same c o h))
+    alike (Fixed IncIx) from to h peeked got = plain (rw (ix-same c o (h .1 .0) (h .1 .1 .0), h .0))
+    alike (Fixed Movt) from to h peeked got = rw (ar-same c o h) (plain refl)
+    alike (Fixed PushAr) from to h peeked got = rw (ar-same c o h) (plain refl)
+    alike (Fixed PopAr) from to h peeked got = plain refl
+    alike (Fixed BrAr) from to h peeked got = rw (ar-same c o h) (plain refl)
+    alike (Fixed CallAr) from to h peeked got = rw (ar-same c o h) (plain refl)
+    alike (Fixed Ret) from to h peeked got = plain refl
+    alike (Fixed Retsk) from to h peeked got = plain refl
+    alike (Fixed Reti) from to h peeked got = plain refl
+    alike (Fixed Ei) from to h peeked got = plain refl
+    alike (Fixed Di) from to h peeked got = plain refl
+    alike (Fixed Nop) from to h peeked got = plain refl
 
 -- what an instruction answers, by its refusal and by refusal 8
 abbrev answerBy : ℕ → Bool → Reply
@@ -189,28 +223,53 @@ answered true true n m next = refl
 answered true false n m next = refl
 answered false past n m next = refl
 
-module _ (chip : Chip) (rom : List ℕ) (input : Input) where
+module _ (chip : Chip) (rom : List ℕ) (signals : Signals) where
   replied : (i : Instruction) (m : Machine)
-      → executeOf chip rom input i m .reply ≡ answerBy (transferBy chip rom input i m .refusal) (pastTable rom (arOf (cellsOf m)) (flowOf i))
+      → executeOf chip rom signals i m .reply ≡ answerBy (transferBy chip rom signals i m .refusal) (pastTable rom (arOf (cellsOf m)) (flowOf i))
   unfolding executeOf
-  replied i m = answered (eqb (transferBy chip rom input i m .refusal) 0) (pastTable rom (arOf (cellsOf m)) (flowOf i)) _ m _
+  replied i m = answered (eqb (transferBy chip rom signals i m .refusal) 0) (pastTable rom (arOf (cellsOf m)) (flowOf i)) _ m _
 
-  pub read-law : ReadLaw chip rom input
-  unfolding addressesOf writesOf holdsOf transferBy
-  read-law i m others h =
-      let d = dataOf m input in
-      let f = dataOf (withCells others m) input in
-      let x = addressesOf chip d i in
-      let a = addresses-same chip (input .pins) (input .directions) (cellsOf m) others i (h .to) (h .from) in
-      let reads = read-same chip (input .pins) (input .directions) (cellsOf m) others in
-      let g = alike chip (input .pins) (input .directions) (cellsOf m) others rom (m .control) x (topOf (m .control))
-      (reads (x .from) (h .source .0)) i (λ y. reads (x .to) (h .result y .0)) (h .implied) in
-      let holds : holdsOf chip d i ≡ holdsOf chip f i = g .1 .0 ∙ ap (λ (y : Addresses). holdsAt chip f y i) a in
-      let transfer : transferBy chip rom input i m ≡ transferBy chip rom input i (withCells others m)
-      = g .1 .1 .0 (holdsOf chip d i) ∙ ap (λ (b : Bool). controlOf chip (flowOf i) b (arOf others) (m .control)) holds in
-      record {
-        writes = g .0 ∙ ap (λ (y : Addresses). writesAt chip f y i (topOf (m .control)) (getD rom (arOf others) 0)) a;
-        holds = holds;
-        transfer = transfer;
-        reply = replied i m ∙ ap₂ answerBy (ap (λ (t : Transfer). t .refusal) transfer) (g .1 .1 .1) ∙ sym (replied i (withCells others m));
-      }
+  module _ (i : Instruction) (m : Machine) (others : List ℕ) (p : Peripherals) (h : Agree chip signals i m (machineOf others p (m .control))) where
+    abbrev n : Machine
+    n = machineOf others p (m .control)
+
+    abbrev f : Data
+    f = dataOf m signals
+
+    abbrev g : Data
+    g = dataOf n signals
+
+    to-found : addressIn chip f (operandsOf i .to) ≡ addressIn chip g (operandsOf i .to)
+    to-found = operand-same chip f g (operandsOf i .to) (h .to) (h .to-pointer)
+
+    from-found : addressIn chip f (operandsOf i .from) ≡ addressIn chip g (operandsOf i .from)
+    from-found = operand-same chip f g (operandsOf i .from) (h .from) (h .from-pointer)
+
+    found : addressesOf chip f i ≡ addressesOf chip g i
+    unfolding addressesOf
+    found = rw (to-found, from-found)
+
+    likened : Alike chip f g rom (m .control) (addressesOf chip f i) (topOf (m .control)) (m .peripherals .counter) (p .counter) i
+    unfolding addressesOf
+    likened = alike chip f g rom (m .control) _ _ _ _ i (h .source) (h .result) (h .implied) (h .peeked) (h .got)
+
+    holds : holdsOf chip f i ≡ holdsOf chip g i
+    unfolding holdsOf
+    holds = likened .1 .0 ∙ ap (λ (a : Addresses). holdsAt chip g a i) found
+
+    transfer : transferBy chip rom signals i m ≡ transferBy chip rom signals i n
+    unfolding transferBy
+    transfer = likened .1 .1 .0 (holdsOf chip f i) ∙ ap (λ (b : Bool). controlOf chip (flowOf i) b (arOf others) (m .control)) holds
+
+    writes : writesBy chip rom signals i m ≡ writesBy chip rom signals i n
+    unfolding writesOf
+    writes = likened .0 ∙ ap (λ (a : Addresses). writesAt chip g a i (sourcesOf rom n)) found
+
+  pub read-law : ReadLaw chip rom signals
+  read-law i m others p h = record {
+    writes = writes i m others p h;
+    settings = settings-same (cellsOf m) others i (h .implied);
+    holds = holds i m others p h;
+    transfer = transfer i m others p h;
+    reply = replied i m ∙ ap₂ answerBy (ap (λ (t : Transfer). t .refusal) (transfer i m others p h)) (likened i m others p h .1 .1 .1) ∙ sym (replied i _);
+  }

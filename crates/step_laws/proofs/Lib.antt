@@ -6,3 +6,4 @@ pub mod Computed
 pub mod AnswersApart
 pub mod Written
 pub mod Depends
+pub mod Times

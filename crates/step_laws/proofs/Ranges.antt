@@ -8,7 +8,7 @@ use lib.Dec.{lit≤}
 use Rattle.laws.proofs.Booleans.{either}
 use Rattle.memory.specs.Chip.{Chip, upd17132}
 use Rattle.machine.specs.Ranges.{machineInRange, allInRange, budgetInRange}
-use Rattle.machine.specs.declared.Input.{Input}
+use Rattle.machine.specs.Signals.{Signals}
 use Rattle.machine.specs.declared.Machine.{Machine}
 use Rattle.cpu.specs.Cost.{none, plus, stepCost}
 use Rattle.cpu.specs.Reply.{Reply, done, inStandby, refused}
@@ -20,8 +20,8 @@ use Rattle.cpu.proofs.Ranged.{steps}
 use Rattle.step_laws.specs.RangeLaws.{RangeLaws}
 
 -- what every step keeps every run keeps
-module _ (chip : Chip) (rom : List ℕ) (input : Input) (P : Machine → Type 0)
-    (each : (m : Machine) → P m → P (stepOf chip rom input m .machine)) where
+module _ (chip : Chip) (rom : List ℕ) (signals : Signals) (P : Machine → Type 0)
+    (each : (m : Machine) → P m → P (stepOf chip rom signals m .machine)) where
   abbrev Q : Run → Type 0
   Q r = P (r .machine)
 
@@ -30,23 +30,23 @@ module _ (chip : Chip) (rom : List ℕ) (input : Input) (P : Machine → Type 0)
   turned n m inStandby rest p q = p
   turned n m (refused k) rest p q = p
 
-  from : (left : ℕ) (n : Count) (m : Machine) → P m → Q (runFrom chip rom input left n m)
+  from : (left : ℕ) (n : Count) (m : Machine) → P m → Q (runFrom chip rom signals left n m)
   unfolding runFrom
   from zero n m p = p
   from (suc left) n m p =
-      let s = stepOf chip rom input m in
-      let count = plus n (stepCost chip rom input m) in
-      turned count (s .machine) (s .reply) (runFrom chip rom input left count (s .machine)) (each m p) (from left count (s .machine) (each m p))
+      let s = stepOf chip rom signals m in
+      let count = plus n (stepCost chip rom signals m) in
+      turned count (s .machine) (s .reply) (runFrom chip rom signals left count (s .machine)) (each m p) (from left count (s .machine) (each m p))
 
-  pub runs : (budget : ℕ) (m : Machine) → P m → Q (runOf chip rom input budget m)
+  pub runs : (budget : ℕ) (m : Machine) → P m → Q (runOf chip rom signals budget m)
   unfolding runOf
   runs budget m p =
-      either Q (allInRange chip rom m input && budgetInRange budget) (runFrom chip rom input budget none m) (ended none 1 m) (from budget none m p) p
+      either Q (allInRange chip rom m signals && budgetInRange budget) (runFrom chip rom signals budget none m) (ended none 1 m) (from budget none m p) p
 
 pub range-laws : RangeLaws upd17132
 range-laws =
     let step = steps upd17132 (lit≤ tt) ar-fits in
     record {
       step = step;
-      run = λ rom input. runs upd17132 rom input (λ (m : Machine). machineInRange upd17132 m ≡ true) (step rom input);
+      run = λ rom signals. runs upd17132 rom signals (λ (m : Machine). machineInRange upd17132 m ≡ true) (step rom signals);
     }

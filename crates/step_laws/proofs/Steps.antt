@@ -1,7 +1,8 @@
--- A refused or standing step leaves the record, a skipped one the cells, and any other the cells that it does not write.
+-- A refused step leaves the record, a standing one all but the timer, a skipped one the cells, and any other the cells that it does
+-- not write.
 -- Assumes nothing.
-use mathlib.Core.Path.{_≡_, refl}
-use mathlib.Core.Bool.{true, false, _&&_}
+use mathlib.Core.Path.{_≡_, _∙_, ap, refl, sym}
+use mathlib.Core.Bool.{Bool, true, false, cond, false≢true}
 use mathlib.Core.List.{List}
 use Prim.Native.Nat.{ℕ}
 use native.Mathlib.Omega.{arith}
@@ -15,103 +16,151 @@ use Rattle.memory.specs.Chip.{Chip}
 use Rattle.memory.specs.Registers.{arOf}
 use Rattle.memory.specs.Write.{touches}
 use Rattle.memory.proofs.Writes.{untouched}
-use Rattle.machine.specs.Parts.{isMarked, cellsOf, withCells, withControl}
+use Rattle.machine.specs.Parts.{HALT, STOP, isMarked, cellsOf, machineOf}
 use Rattle.machine.specs.Ranges.{allInRange}
-use Rattle.machine.specs.declared.Input.{Input}
+use Rattle.machine.specs.Signals.{Signals}
 use Rattle.machine.specs.declared.Machine.{Machine}
 use Rattle.control.specs.Flow.{flowOf}
-use Rattle.cpu.specs.Execute.{pastTable, transferBy, writtenOf, executeOf}
-use Rattle.cpu.specs.Reply.{Reply, done, inStandby, refused, Step, completedStep, standingStep, refusedStep}
-use Rattle.cpu.specs.Step.{isStanding, woken, unlessRefused, decodedOf, passOver, fetchOf, advanceOf, stepOf}
+use Rattle.peripherals.specs.Timer.{tickOf}
+use Rattle.cpu.specs.Cycles.{nextCycles}
+use Rattle.cpu.specs.Execute.{pastTable, transferBy, writtenOf, setOf, executeOf}
+use Rattle.cpu.specs.Reply.{done, inStandby, refused, Step, completedStep, standingStep, refusedStep}
+use Rattle.cpu.specs.Step.{waits, tickedBy, stoodBy, woken, unlessRefused, decodedOf, passOver, fetchOf, advanceOf, stepOf}
+use Rattle.cpu.proofs.Costs.{skipped-cycles}
 use Rattle.step_laws.specs.StepLaws.{writesBy, StepLaws}
 
-module _ (chip : Chip) (rom : List ℕ) (input : Input) where
+-- the answers differ
+pub standby-done : inStandby ≡ done → ⊥
+standby-done e = let z : _≡_ {A = ℕ} 0 1 = cc in omega arith
+
+done-refused : (n : ℕ) → done ≡ refused n → ⊥
+done-refused n e = let z : _≡_ {A = ℕ} 0 1 = cc in omega arith
+
+standby-refused : (n : ℕ) → inStandby ≡ refused n → ⊥
+standby-refused n e = let z : _≡_ {A = ℕ} 0 1 = cc in omega arith
+
+-- what holds of the one that a test picks, where the test is known
+tested : {A : Type 0} (P : A → Type 0) (b : Bool) (x y : A) → (b ≡ true → P x) → (b ≡ false → P y) → P (cond b x y)
+tested P true x y p q = p refl
+tested P false x y p q = q refl
+
+module _ (chip : Chip) (rom : List ℕ) (signals : Signals) where
   abbrev step : Machine → Step
-  step m = stepOf chip rom input m
+  step m = stepOf chip rom signals m
 
   -- the ways that an instruction ends
   settled : (P : Step → Type 0) (i : Instruction) (m : Machine) → ((n : ℕ) → P (refusedStep n m))
-      → P (completedStep (withCells (writtenOf chip rom input i m) (withControl (transferBy chip rom input i m .control) m)))
-      → P (executeOf chip rom input i m)
+      → P (completedStep (machineOf (writtenOf chip rom signals i m) (setOf chip rom signals i m) (transferBy chip rom signals i m .control)))
+      → P (executeOf chip rom signals i m)
   unfolding executeOf
   settled P i m off on =
-      let t = transferBy chip rom input i m in
+      let t = transferBy chip rom signals i m in
       either P (eqb (t .refusal) 0) _ (refusedStep (t .refusal) m)
       (either P (pastTable rom (arOf (cellsOf m)) (flowOf i)) (refusedStep 8 m) _ (off 8) on) (off (t .refusal))
 
-  -- the ways that a fetch ends
-  fetched : (P : Step → Type 0) (m : Machine) → P (refusedStep 2 m) → P (passOver chip rom input m)
-      → P (decodedOf chip rom input m (decodeOf (getD rom (m .control .pc) 0))) → P (fetchOf chip rom input m)
-  unfolding fetchOf
-  fetched P m off over on =
-      either P (leb (length rom) (m .control .pc)) (refusedStep 2 m) _ off (either P (isMarked (m .control .skip)) (passOver chip rom input m) _ over on)
-
-  -- the ways that a step ends
-  stepped : (P : Step → Type 0) (m : Machine) → P (refusedStep 1 m) → P (standingStep m)
-      → (let s = fetchOf chip rom input (woken m) in P (unlessRefused m (s .machine) (s .reply))) → P (step m)
-  unfolding stepOf advanceOf
-  stepped P m off stays on =
-      either P (allInRange chip rom m input) (advanceOf chip rom input m) (refusedStep 1 m)
-      (either P (isStanding m && eqb (input .release) 0) (standingStep m) _ stays on) off
-
-  -- a fetch does not answer "standing"
-  abbrev Awake : Step → Type 0
-  Awake s = s .reply ≡ inStandby → ⊥
-
-  not-refused : (n : ℕ) → refused n ≡ inStandby → ⊥
-  not-refused n e = let z : _≡_ {A = ℕ} 0 1 = cc in omega arith
-
-  not-done : done ≡ inStandby → ⊥
-  not-done e = let z : _≡_ {A = ℕ} 0 1 = cc in omega arith
-
-  decoded : (m : Machine) (d : Decoding) → Awake (decodedOf chip rom input m d)
-  decoded m (is i) = settled Awake i m not-refused not-done
-  decoded m (refusedWord n) = not-refused n
-
-  left : (m after : Machine) (r : Reply) → (r ≡ inStandby → ⊥) → (unlessRefused m after r .reply ≡ done → ⊥) → unlessRefused m after r .machine ≡ m
-  left m after done w n = absurd (n refl)
-  left m after inStandby w n = absurd (w refl)
-  left m after (refused q) w n = refl
-
-  -- a step that is not completed
-  pub unchanged : (m : Machine) → (step m .reply ≡ done → ⊥) → step m .machine ≡ m
-  unchanged m =
-      stepped (λ (s : Step). (s .reply ≡ done → ⊥) → s .machine ≡ m) m (λ n. refl) (λ n. refl)
-      (left m _ _ (fetched Awake (woken m) (not-refused 2) not-done (decoded (woken m) (decodeOf (getD rom (m .control .pc) 0)))))
-
-  -- the cells after a step are those before it, or those after the fetch
-  module _ (P : List ℕ → Type 0) (m : Machine) (same : P (cellsOf m)) where
-    abbrev Q : Step → Type 0
-    Q s = P (cellsOf (s .machine))
-
-    unless : (after : Machine) (r : Reply) → P (cellsOf after) → Q (unlessRefused m after r)
-    unless after done p = p
-    unless after inStandby p = p
-    unless after (refused n) p = same
-
-    cells-of : Q (fetchOf chip rom input (woken m)) → Q (step m)
-    cells-of p = stepped Q m same same (unless _ (fetchOf chip rom input (woken m) .reply) p)
-
   module _ (m : Machine) where
-    skipped : isMarked (m .control .skip) ≡ true → cellsOf (step m .machine) ≡ cellsOf m
-    unfolding fetchOf
-    skipped e =
-        let P : List ℕ → Type 0 = λ cells. cells ≡ cellsOf m in
-        cells-of P m refl (rw e (either (Q P m refl) (leb (length rom) (m .control .pc)) (refusedStep 2 (woken m)) (passOver chip rom input (woken m)) refl refl))
+    -- the timer's cycles come last
+    abbrev ticked : Machine → Machine
+    ticked after = tickedBy (nextCycles rom m) (signals .pulse) after
 
-    frame : (i : Instruction) → decodeOf (getD rom (m .control .pc) 0) ≡ is i
-        → (k : ℕ) → touches (writesBy chip rom input i m) k ≡ false → getD (cellsOf (step m .machine)) k 0 ≡ getD (cellsOf m) k 0
+    -- the record after a word that is passed over, and after an instruction
+    abbrev pub passed : Machine
+    passed = ticked (passOver chip rom signals (woken m) .machine)
+
+    abbrev pub executed : Instruction → Machine
+    executed i =
+        ticked (machineOf (writtenOf chip rom signals i (woken m)) (setOf chip rom signals i (woken m)) (transferBy chip rom signals i (woken m) .control))
+
+    abbrev word : Decoding
+    word = decodeOf (getD rom (m .control .pc) 0)
+
+    module _ (P : Step → Type 0) (off : (n : ℕ) → P (refusedStep n m)) where
+      -- a step from its fetch
+      abbrev Q : Step → Type 0
+      Q s = P (unlessRefused m (ticked (s .machine)) (s .reply))
+
+      by-word : (d : Decoding) → word ≡ d → ((i : Instruction) → word ≡ is i → P (completedStep (executed i))) → Q (decodedOf chip rom signals (woken m) d)
+      by-word (is i) w on = settled Q i (woken m) off (on i w)
+      by-word (refusedWord n) w on = off n
+
+      -- the ways that a step ends
+      pub stepped : (waits chip rom signals m ≡ true → P (standingStep (stoodBy (signals .pulse) m)))
+          → (isMarked (m .control .skip) ≡ true → P (completedStep passed))
+          → (isMarked (m .control .skip) ≡ false → (i : Instruction) → word ≡ is i → P (completedStep (executed i)))
+          → P (step m)
+      unfolding stepOf advanceOf fetchOf
+      stepped stand over on =
+          either P (allInRange chip rom m signals) (advanceOf chip rom signals m) (refusedStep 1 m)
+          (tested P (waits chip rom signals m) (standingStep (stoodBy (signals .pulse) m)) _ stand (λ w.
+          either Q (leb (length rom) (m .control .pc)) (refusedStep 2 (woken m)) _ (off 2)
+          (tested Q (isMarked (m .control .skip)) (passOver chip rom signals (woken m)) _ over (λ s. by-word word refl (on s)))))
+          (off 1)
+
+    pub kept : (n : ℕ) → step m .reply ≡ refused n → step m .machine ≡ m
+    kept n =
+        stepped (λ (s : Step). s .reply ≡ refused n → s .machine ≡ m) (λ k e. refl) (λ w e. absurd (standby-refused n e))
+        (λ s e. absurd (done-refused n e)) (λ s i w e. absurd (done-refused n e))
+
+    -- a step answers "standing" where the machine waits
+    pub stays : step m .reply ≡ inStandby → waits chip rom signals m ≡ true
+    stays =
+        stepped (λ (s : Step). s .reply ≡ inStandby → waits chip rom signals m ≡ true) (λ n e. absurd (standby-refused n (sym e)))
+        (λ w e. w) (λ s e. absurd (standby-done (sym e))) (λ s i w e. absurd (standby-done (sym e)))
+
+    stood : step m .reply ≡ inStandby → step m .machine ≡ stoodBy (signals .pulse) m
+    stood =
+        stepped (λ (s : Step). s .reply ≡ inStandby → s .machine ≡ stoodBy (signals .pulse) m) (λ n e. absurd (standby-refused n (sym e)))
+        (λ w e. refl) (λ s e. absurd (standby-done (sym e))) (λ s i w e. absurd (standby-done (sym e)))
+
+    stopped : step m .reply ≡ inStandby → m .control .standby ≡ STOP → step m .machine ≡ m
+    stopped e s = stood e ∙ ap (λ (mark : ℕ). cond (eqb mark HALT) (tickedBy 1 (signals .pulse) m) m) s
+
+    halted : step m .reply ≡ inStandby → m .control .standby ≡ HALT → step m .machine ≡ tickedBy 1 (signals .pulse) m
+    halted e s = stood e ∙ ap (λ (mark : ℕ). cond (eqb mark HALT) (tickedBy 1 (signals .pulse) m) m) s
+
+    stood-cells : cellsOf (stoodBy (signals .pulse) m) ≡ cellsOf m
+    stood-cells = either (λ (x : Machine). cellsOf x ≡ cellsOf m) (eqb (m .control .standby) HALT) (tickedBy 1 (signals .pulse) m) m refl refl
+
+    skipped : isMarked (m .control .skip) ≡ true → cellsOf (step m .machine) ≡ cellsOf m
+    skipped e =
+        stepped (λ (s : Step). cellsOf (s .machine) ≡ cellsOf m) (λ n. refl) (λ w. stood-cells) (λ s. refl)
+        (λ s i w. absurd (false≢true (sym s ∙ e)))
+
+    same : (i j : Instruction) → word ≡ is i → word ≡ is j → i ≡ j
+    same i j e f = cc
+
+    frame : (i : Instruction) → word ≡ is i → (k : ℕ) → touches (writesBy chip rom signals i m) k ≡ false
+        → getD (cellsOf (step m .machine)) k 0 ≡ getD (cellsOf m) k 0
     unfolding writtenOf
     frame i e k u =
-        let P : List ℕ → Type 0 = λ cells. getD cells k 0 ≡ getD (cellsOf m) k 0 in
-        cells-of P m refl
-        (fetched (Q P m refl) (woken m) refl refl
-        (rw e (settled (Q P m refl) i (woken m) (λ n. refl) (untouched chip (writesBy chip rom input i m) (cellsOf m) k u))))
+        stepped (λ (s : Step). getD (cellsOf (s .machine)) k 0 ≡ getD (cellsOf m) k 0) (λ n. refl)
+        (λ w. ap (λ (cells : List ℕ). getD cells k 0) stood-cells) (λ s. refl)
+        (λ s j w. rw (same j i w e) (untouched chip (writesBy chip rom signals i m) (cellsOf m) k u))
 
-pub step-laws : (chip : Chip) (rom : List ℕ) (input : Input) (m : Machine) → StepLaws chip rom input m
-step-laws chip rom input m = record {
-  kept = λ n e. unchanged chip rom input m (λ d. let z : _≡_ {A = ℕ} 0 1 = cc in omega arith);
-  standing = λ e. unchanged chip rom input m (λ d. let z : _≡_ {A = ℕ} 0 1 = cc in omega arith);
-  skipped = skipped chip rom input m;
-  frame = frame chip rom input m;
+    timed : step m .reply ≡ done → isMarked (m .control .skip) ≡ true
+        → step m .machine .peripherals ≡ tickOf (m .peripherals) 1 (signals .pulse)
+    timed d e =
+        stepped (λ (s : Step). s .reply ≡ done → s .machine .peripherals ≡ tickOf (m .peripherals) 1 (signals .pulse))
+        (λ n r. absurd (done-refused n (sym r))) (λ w r. absurd (standby-done r))
+        (λ s r. ap (λ (n : ℕ). tickOf (m .peripherals) n (signals .pulse)) (sym (skipped-cycles (getD rom (m .control .pc) 0) (m .control .skip) e)))
+        (λ s i w. absurd (false≢true (sym s ∙ e)))
+        d
+
+    set : (i : Instruction) → word ≡ is i → step m .reply ≡ done → isMarked (m .control .skip) ≡ false
+        → step m .machine .peripherals ≡ tickOf (setOf chip rom signals i m) (nextCycles rom m) (signals .pulse)
+    set i e d u =
+        stepped (λ (s : Step). s .reply ≡ done → s .machine .peripherals ≡ tickOf (setOf chip rom signals i m) (nextCycles rom m) (signals .pulse))
+        (λ n r. absurd (done-refused n (sym r))) (λ w r. absurd (standby-done r))
+        (λ s r. absurd (false≢true (sym u ∙ s))) (λ s j w r. rw (same j i w e))
+        d
+
+pub step-laws : (chip : Chip) (rom : List ℕ) (signals : Signals) (m : Machine) → StepLaws chip rom signals m
+step-laws chip rom signals m = record {
+  kept = kept chip rom signals m;
+  stopped = stopped chip rom signals m;
+  halted = halted chip rom signals m;
+  skipped = skipped chip rom signals m;
+  frame = frame chip rom signals m;
+  timed = timed chip rom signals m;
+  set = set chip rom signals m;
 }

@@ -18,13 +18,14 @@ use Rattle.laws.specs.Every.{every}
 use Rattle.laws.proofs.Every.{every-at}
 use Rattle.memory.specs.Cells.{isSet}
 use Rattle.memory.specs.Chip.{Chip}
-use Rattle.memory.specs.Names.{AR3, AR0, DBF3, DBF0, IXH, IXL, PSW, CMP}
-use Rattle.memory.specs.Registers.{arWrites, bufferWrites, incrementIx}
+use Rattle.memory.specs.Names.{AR3, AR0, WR, DBF3, DBF1, DBF0, IXH, IXL, PSW, CMP}
+use Rattle.memory.specs.Registers.{arWrites, lowByteWrites, bufferWrites, incrementIx}
 use Rattle.memory.specs.Write.{_↤_, touches}
-use Rattle.operations.specs.Data.{Data}
+use Rattle.peripherals.specs.Registers.{isData}
+use Rattle.operations.specs.Data.{Data, Sources}
 use Rattle.operations.specs.Operands.{addressIn, addressesOf, noCell}
-use Rattle.operations.specs.Writes.{arithmeticWrites, resultWrites, rotateWrites, skipWrites, aluWrites, transferWrites, writesAt, writesOf}
-use Rattle.step_laws.specs.WrittenCells.{isArithmetic, fromTo, isResult, isFlags, Named, alu-r, alu-m, rorc, skt, skf, inc-ar, pop-ar, inc-ix, movt, WrittenCells}
+use Rattle.operations.specs.Writes.{arithmeticWrites, resultWrites, rotateWrites, skipWrites, pokeWrites, aluWrites, transferWrites, writesAt, writesOf}
+use Rattle.step_laws.specs.WrittenCells.{isArithmetic, fromTo, isResult, isFlags, Named, alu-r, alu-m, rorc, skt, skf, inc-ar, pop-ar, inc-ix, movt, get, peek, WrittenCells}
 
 -- two tests that agree on every cell
 agree : (f g : ℕ → Bool) → T (every (λ (k : ℕ). Bool·beq (f k) (g k)) 128) → (k : ℕ) → k < 128 → f k ≡ g k
@@ -70,10 +71,18 @@ module _ (cells : List ℕ) (at k : ℕ) (o : Outcome) where
   logic And n = or-false (eqb k at)
   logic Xor n = or-false (eqb k at)
 
-module _ (chip : Chip) (d : Data) (top word k : ℕ) (h : k < 128) where
+module _ (chip : Chip) (d : Data) (src : Sources) (k : ℕ) (h : k < 128) where
   -- the instruction writes what it is to write
   abbrev Writes : Instruction → (ℕ → Bool) → Type 0
-  Writes i cells = touches (writesOf chip d i top word) k ≡ cells k
+  Writes i cells = touches (writesOf chip d i src) k ≡ cells k
+
+  get-named : (p : ℕ) (cells : ℕ → Bool) → Named chip d (Get p) cells → Writes (Get p) cells
+  unfolding writesOf writesAt
+  get-named p _ (get _) = agree (touches (lowByteWrites 0)) (fromTo DBF1 DBF0) tt k h
+
+  peek-named : (rf : ℕ) (cells : ℕ → Bool) → Named chip d (Peek rf) cells → Writes (Peek rf) cells
+  unfolding writesOf writesAt
+  peek-named rf _ (peek _) = or-false (eqb k WR)
 
   named : (i : Instruction) (cells : ℕ → Bool) → Named chip d i cells → Writes i cells
   unfolding writesOf writesAt addressesOf aluWrites skipWrites rotateWrites
@@ -86,12 +95,19 @@ module _ (chip : Chip) (d : Data) (top word k : ℕ) (h : k < 128) where
   named _ _ pop-ar = agree (touches (arWrites 0)) (fromTo AR3 AR0) tt k h
   named _ _ inc-ix = agree (touches (incrementIx [])) (fromTo IXH IXL) tt k h
   named _ _ movt = agree (touches (bufferWrites 0)) (fromTo DBF3 DBF0) tt k h
+  named _ _ (get p) = get-named p _ (get p)
+  named _ _ (peek rf) = peek-named rf _ (peek rf)
 
   nothing : false ≡ eqb k noCell
   nothing = sym (ne-eqb k noCell (λ e. omega arith))
 
+  -- POKE of a data cell, and of a control register
+  poked : (b : Bool) (rf v : ℕ) → touches (cond b ((rf ↤ v) ∷ []) []) k ≡ eqb k (cond b rf noCell)
+  poked true rf v = or-false (eqb k rf)
+  poked false rf v = nothing
+
   others : (i : Instruction) → ((cells : ℕ → Bool) → Named chip d i cells → ⊥) → Writes i (isResult chip d i)
-  unfolding writesOf writesAt addressesOf addressIn aluWrites skipWrites transferWrites
+  unfolding writesOf writesAt addressesOf addressIn aluWrites skipWrites pokeWrites transferWrites
   others (AluRegister op r m) n = logic (d .cells) _ k _ op (λ e. n _ (alu-r op r m e))
   others (AluImmediate op m n4) n = logic (d .cells) _ k _ op (λ e. n _ (alu-m op m n4 e))
   others (Skip Skt m n4) n = absurd (n _ (skt m n4))
@@ -106,9 +122,9 @@ module _ (chip : Chip) (d : Data) (top word k : ℕ) (h : k < 128) where
   others (MovToIndirect r m) n = or-false _
   others (MovFromIndirect m r) n = or-false _
   others (MovImmediate m n4) n = or-false _
-  others (Peek rf) n = nothing
-  others (Poke rf) n = nothing
-  others (Get p) n = nothing
+  others (Peek rf) n = absurd (n _ (peek rf))
+  others (Poke rf) n = poked (isData rf) rf _
+  others (Get p) n = absurd (n _ (get p))
   others (Put p) n = nothing
   others (Br addr) n = nothing
   others (Call addr) n = nothing
@@ -128,8 +144,8 @@ module _ (chip : Chip) (d : Data) (top word k : ℕ) (h : k < 128) where
   others (Fixed Di) n = nothing
   others (Fixed Nop) n = nothing
 
-pub written-cells : (chip : Chip) (d : Data) (top word : ℕ) → WrittenCells chip d top word
-written-cells chip d top word = record {
-  named = λ i cells w k h. named chip d top word k h i cells w;
-  others = λ i n k h. others chip d top word k h i n;
+pub written-cells : (chip : Chip) (d : Data) (src : Sources) → WrittenCells chip d src
+written-cells chip d src = record {
+  named = λ i cells w k h. named chip d src k h i cells w;
+  others = λ i n k h. others chip d src k h i n;
 }

@@ -16,7 +16,8 @@ use Rattle.memory.specs.Chip.{upd17132}
 use Rattle.memory.specs.Names.{IXH, IXM, IXL, RPL, PSW, CY, IXE, BCD, MPE}
 use Rattle.memory.specs.Write.{Write, _↤_}
 use Rattle.machine.specs.Parts.{cellsOf, machineOf, resetControl}
-use Rattle.machine.specs.declared.Input.{Input}
+use Rattle.machine.specs.Signals.{Signals, signals}
+use Rattle.peripherals.specs.Registers.{resetPeripherals}
 use Rattle.cpu.specs.Reply.{Reply, done, Step}
 use Rattle.cpu.specs.Step.{stepOf}
 
@@ -30,15 +31,15 @@ pub data Given : Type 0 where
   words : Encoding → Decoding → Given
   stepped : Reply → List ℕ → Given
 
-abbrev pub quiet : Input
-quiet = record { pins = replicate 5 0; directions = replicate 5 0; release = 0 }
+abbrev pub quiet : Signals
+quiet = signals (record { pins = replicate 5 0; directions = replicate 5 0; release = 0 }) 0
 
 abbrev pub filled : List Write → List ℕ → List ℕ
 filled [] cells = cells
 filled (w ∷ ws) cells = filled ws (set cells (w .at) (w .value))
 
 abbrev pub stepAlone : Instruction → List Write → Step
-stepAlone i before = stepOf upd17132 (wordOf i ∷ []) quiet (machineOf (filled before (replicate 128 0)) resetControl)
+stepAlone i before = stepOf upd17132 (wordOf i ∷ []) quiet (machineOf (filled before (replicate 128 0)) resetPeripherals resetControl)
 
 abbrev pub gives : Case → Given
 gives (word i w) = words (encodeOf i) (decodeOf w)

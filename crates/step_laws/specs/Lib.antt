@@ -3,5 +3,6 @@ pub mod StepLaws
 pub mod RunLaws
 pub mod ReadLaw
 pub mod WrittenCells
+pub mod TimeLaws
 pub mod Cases
 pub mod AnswersApart

@@ -6,13 +6,13 @@ use mathlib.Core.List.{List}
 use Prim.Native.Nat.{ℕ}
 use Rattle.memory.specs.Chip.{Chip}
 use Rattle.machine.specs.Ranges.{machineInRange}
-use Rattle.machine.specs.declared.Input.{Input}
+use Rattle.machine.specs.Signals.{Signals}
 use Rattle.machine.specs.declared.Machine.{Machine}
 use Rattle.cpu.specs.Run.{runOf}
 use Rattle.cpu.specs.Step.{stepOf}
 
 pub record RangeLaws (chip : Chip) : Type 0 where
-  pub step : (rom : List ℕ) (input : Input) (m : Machine) → machineInRange chip m ≡ true
-      → machineInRange chip ((stepOf chip rom input m) .machine) ≡ true
-  pub run : (rom : List ℕ) (input : Input) (budget : ℕ) (m : Machine) → machineInRange chip m ≡ true
-      → machineInRange chip ((runOf chip rom input budget m) .machine) ≡ true
+  pub step : (rom : List ℕ) (signals : Signals) (m : Machine) → machineInRange chip m ≡ true
+      → machineInRange chip ((stepOf chip rom signals m) .machine) ≡ true
+  pub run : (rom : List ℕ) (signals : Signals) (budget : ℕ) (m : Machine) → machineInRange chip m ≡ true
+      → machineInRange chip ((runOf chip rom signals budget m) .machine) ≡ true

@@ -1,31 +1,35 @@
--- An instruction depends on no cell but those that its operands name, those that their addresses go by and those that it
--- implies: document 01, "Addresses" and "Results". Proved in proofs/Depends.antt.
+-- An instruction depends on nothing but what its operands hold as it reads them, the cells that their addresses go by and those
+-- that it implies, and, for PEEK and GET, what they read of the peripherals: document 01, "Addresses" and "Results", document 02,
+-- E4. Proved in proofs/Depends.antt.
 -- Assumes nothing.
 use mathlib.Core.Path.{_≡_}
 use mathlib.Core.List.{List, [], _∷_}
 use Prim.Native.Nat.{ℕ}
 use Rattle.isa.specs.declared.AluOp.{AluOp}
 use Rattle.isa.specs.declared.Instruction.{Instruction}
-use Rattle.isa.specs.declared.Instruction.the-variants.{AluRegister, AluImmediate, Rorc}
+use Rattle.isa.specs.declared.Instruction.the-variants.{AluRegister, AluImmediate, Rorc, Peek, Get}
 use Rattle.memory.specs.Cells.{cellAt}
 use Rattle.memory.specs.Chip.{Chip}
 use Rattle.memory.specs.Names.{IXH, IXM, IXL, RPL, PSW}
-use Rattle.machine.specs.Parts.{withCells}
-use Rattle.machine.specs.declared.Input.{Input}
+use Rattle.machine.specs.Parts.{cellsOf, machineOf}
+use Rattle.machine.specs.Signals.{Signals}
 use Rattle.machine.specs.declared.Machine.{Machine}
-use Rattle.operations.specs.Data.{Data}
-use Rattle.operations.specs.Operands.{Operand, none, direct, register, indirect, operandsOf, addressIn}
-use Rattle.operations.specs.Writes.{holdsOf}
+use Rattle.peripherals.specs.declared.Peripherals.{Peripherals}
+use Rattle.operations.specs.Data.{Data, readAt}
+use Rattle.operations.specs.Operands.{Operand, none, direct, register, indirect, file, operandsOf, addressIn}
+use Rattle.operations.specs.Settings.{settingsOf}
+use Rattle.operations.specs.Writes.{fileAt, holdsOf}
 use Rattle.cpu.specs.Execute.{dataOf, transferBy, executeOf}
 use Rattle.step_laws.specs.StepLaws.{writesBy}
 
--- the cells that an operand's address goes by: m's by IXE and IX, r's by the register pointer, and @r's by these, by MPE and by
--- what r holds
-abbrev pub addressedBy : Chip → Data → Operand → List ℕ
-addressedBy chip d none = []
-addressedBy chip d (direct m) = PSW ∷ IXM ∷ IXL ∷ []
-addressedBy chip d (register r) = RPL ∷ []
-addressedBy chip d (indirect m r) = PSW ∷ IXH ∷ IXM ∷ IXL ∷ RPL ∷ addressIn chip d (register r) ∷ []
+-- the cells that an operand's address goes by: m's by IXE and IX, r's by the register pointer, and @r's by these and by MPE; rf's by
+-- none
+abbrev pub addressedBy : Operand → List ℕ
+addressedBy none = []
+addressedBy (direct m) = PSW ∷ IXM ∷ IXL ∷ []
+addressedBy (register r) = RPL ∷ []
+addressedBy (indirect m r) = PSW ∷ IXH ∷ IXM ∷ IXL ∷ RPL ∷ []
+addressedBy (file rf) = []
 
 -- the instructions that read the cell of their result; LD, ST and MOV only write it
 pub data ReadsResult : Instruction → Type 0 where
@@ -38,22 +42,41 @@ abbrev pub AgreeAt : List ℕ → List ℕ → List ℕ → Type 0
 AgreeAt [] cells others = Unit
 AgreeAt (at ∷ ats) cells others = (cellAt cells at ≡ cellAt others at) × AgreeAt ats cells others
 
--- and at what an instruction goes by: what the addresses of its operands go by, what stands there, and what it implies
-pub record Agree (chip : Chip) (d : Data) (i : Instruction) (others : List ℕ) : Type 0 where
-  pub to : AgreeAt (addressedBy chip d (operandsOf i .to)) (d .cells) others
-  pub from : AgreeAt (addressedBy chip d (operandsOf i .from)) (d .cells) others
-  pub source : AgreeAt (addressIn chip d (operandsOf i .from) ∷ []) (d .cells) others
-  pub result : ReadsResult i → AgreeAt (addressIn chip d (operandsOf i .to) ∷ []) (d .cells) others
-  pub implied : AgreeAt (operandsOf i .implied) (d .cells) others
+module _ (chip : Chip) (d e : Data) where
+  -- a cell is read alike: of a port the pin or the stored bit, by the directions
+  abbrev pub ReadAlike : ℕ → Type 0
+  ReadAlike at = readAt chip d at ≡ readAt chip e at
 
-module _ (chip : Chip) (rom : List ℕ) (input : Input) where
-  -- the same writes, the same condition, the same transfer of control and the same answer
+  -- and so is the register that gives @r its column
+  abbrev pub Pointed : Operand → Type 0
+  Pointed none = Unit
+  Pointed (direct m) = Unit
+  Pointed (register r) = Unit
+  Pointed (indirect m r) = ReadAlike (addressIn chip d (register r))
+  Pointed (file rf) = Unit
+
+-- two machines agree at what an instruction goes by: what the addresses of its operands go by, what it reads there, and what it implies
+pub record Agree (chip : Chip) (signals : Signals) (i : Instruction) (m n : Machine) : Type 0 where
+  pub to : AgreeAt (addressedBy (operandsOf i .to)) (cellsOf m) (cellsOf n)
+  pub from : AgreeAt (addressedBy (operandsOf i .from)) (cellsOf m) (cellsOf n)
+  pub to-pointer : Pointed chip (dataOf m signals) (dataOf n signals) (operandsOf i .to)
+  pub from-pointer : Pointed chip (dataOf m signals) (dataOf n signals) (operandsOf i .from)
+  pub source : ReadAlike chip (dataOf m signals) (dataOf n signals) (addressIn chip (dataOf m signals) (operandsOf i .from))
+  pub result : ReadsResult i → ReadAlike chip (dataOf m signals) (dataOf n signals) (addressIn chip (dataOf m signals) (operandsOf i .to))
+  pub implied : AgreeAt (operandsOf i .implied) (cellsOf m) (cellsOf n)
+  pub peeked : (rf : ℕ) → i ≡ Peek rf → fileAt chip (dataOf m signals) rf ≡ fileAt chip (dataOf n signals) rf
+  pub got : (p : ℕ) → i ≡ Get p → m .peripherals .counter ≡ n .peripherals .counter
+
+module _ (chip : Chip) (rom : List ℕ) (signals : Signals) where
+  -- the same writes and settings, the same condition, the same transfer of control and the same answer
   pub record Same (i : Instruction) (m n : Machine) : Type 0 where
-    pub writes : writesBy chip rom input i m ≡ writesBy chip rom input i n
-    pub holds : holdsOf chip (dataOf m input) i ≡ holdsOf chip (dataOf n input) i
-    pub transfer : transferBy chip rom input i m ≡ transferBy chip rom input i n
-    pub reply : executeOf chip rom input i m .reply ≡ executeOf chip rom input i n .reply
+    pub writes : writesBy chip rom signals i m ≡ writesBy chip rom signals i n
+    pub settings : (p : Peripherals) → settingsOf (cellsOf m) p i ≡ settingsOf (cellsOf n) p i
+    pub holds : holdsOf chip (dataOf m signals) i ≡ holdsOf chip (dataOf n signals) i
+    pub transfer : transferBy chip rom signals i m ≡ transferBy chip rom signals i n
+    pub reply : executeOf chip rom signals i m .reply ≡ executeOf chip rom signals i n .reply
 
   abbrev pub ReadLaw : Type 0
   ReadLaw =
-      (i : Instruction) (m : Machine) (others : List ℕ) → Agree chip (dataOf m input) i others → Same i m (withCells others m)
+      (i : Instruction) (m : Machine) (others : List ℕ) (p : Peripherals)
+      → Agree chip signals i m (machineOf others p (m .control)) → Same i m (machineOf others p (m .control))

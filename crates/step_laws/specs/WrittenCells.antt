@@ -10,12 +10,12 @@ use Rattle.isa.specs.declared.AluOp.the-variants.{Add, AddC, Sub, SubC, Or, And
 use Rattle.isa.specs.declared.SkipOp.the-variants.{Skt, Skf}
 use Rattle.isa.specs.declared.FixedOp.the-variants.{IncAr, IncIx, Movt, PopAr}
 use Rattle.isa.specs.declared.Instruction.{Instruction}
-use Rattle.isa.specs.declared.Instruction.the-variants.{AluRegister, AluImmediate, Skip, Rorc, Fixed}
+use Rattle.isa.specs.declared.Instruction.the-variants.{AluRegister, AluImmediate, Skip, Rorc, Peek, Get, Fixed}
 use Rattle.memory.specs.Cells.{isSet}
 use Rattle.memory.specs.Chip.{Chip}
-use Rattle.memory.specs.Names.{AR3, AR0, DBF3, DBF0, IXH, IXL, PSW, CMP}
+use Rattle.memory.specs.Names.{AR3, AR0, WR, DBF3, DBF1, DBF0, IXH, IXL, PSW, CMP}
 use Rattle.memory.specs.Write.{touches}
-use Rattle.operations.specs.Data.{Data}
+use Rattle.operations.specs.Data.{Data, Sources}
 use Rattle.operations.specs.Operands.{operandsOf, addressIn}
 use Rattle.operations.specs.Writes.{writesOf}
 
@@ -52,15 +52,17 @@ module _ (chip : Chip) (d : Data) where
     rorc : (r : ℕ) → Named (Rorc r) (λ k. isResult (Rorc r) k || isFlags k)
     skt : (m n : ℕ) → Named (Skip Skt m n) isFlags
     skf : (m n : ℕ) → Named (Skip Skf m n) isFlags
-    -- "INC AR and POP AR write 74H to 77H, INC IX 7AH to 7CH, MOVT 0CH to 0FH"
+    -- "INC AR and POP AR write 74H to 77H, INC IX 7AH to 7CH, MOVT 0CH to 0FH, GET 0EH and 0FH, PEEK 78H"
     inc-ar : Named (Fixed IncAr) (fromTo AR3 AR0)
     pop-ar : Named (Fixed PopAr) (fromTo AR3 AR0)
     inc-ix : Named (Fixed IncIx) (fromTo IXH IXL)
     movt : Named (Fixed Movt) (fromTo DBF3 DBF0)
+    get : (p : ℕ) → Named (Get p) (fromTo DBF1 DBF0)
+    peek : (rf : ℕ) → Named (Peek rf) (λ k. eqb k WR)
 
-  pub record WrittenCells (top word : ℕ) : Type 0 where
+  pub record WrittenCells (src : Sources) : Type 0 where
     pub named : (i : Instruction) (cells : ℕ → Bool) → Named i cells → (k : ℕ) → k < 128
-        → touches (writesOf chip d i top word) k ≡ cells k
-    -- every other instruction writes the cell of its result and no other
+        → touches (writesOf chip d i src) k ≡ cells k
+    -- every other instruction writes the cell of its result and no other, POKE "its data cell if any"
     pub others : (i : Instruction) → ((cells : ℕ → Bool) → Named i cells → ⊥) → (k : ℕ) → k < 128
-        → touches (writesOf chip d i top word) k ≡ isResult i k
+        → touches (writesOf chip d i src) k ≡ isResult i k

@@ -10,12 +10,14 @@ use lib.ListN.{getD, length, drop}
 use lib.Seq.{drop-drop}
 use borrow.Author.Tests.{eq-eqb, ne-eqb}
 use Rattle.memory.specs.Chip.{upd17132}
-use Rattle.cpu.specs.Cost.{nextCycles, none, plus, stepCost}
+use Rattle.cpu.specs.Cost.{none, plus, stepCost}
+use Rattle.cpu.specs.Cycles.{nextCycles}
 use Rattle.cpu.specs.Reply.{Reply, Step}
 use Rattle.machine.specs.Parts.{resetMachine}
 use Rattle.cpu.specs.Step.{stepOf}
 use Rattle.cpu.specs.declared.Count.{Count}
 use Rattle.cpu.proofs.Costs.{cost-below, cost-cycles, cycles-few}
+use Rattle.machine.specs.Signals.{signals}
 use Rattle.machine.specs.declared.Input.{Input}
 use Rattle.machine.specs.declared.Machine.{Machine}
 use Rattle.station_file.specs.Station.{recordBytes}
@@ -61,26 +63,26 @@ module _ (rom : List ℕ) where
     fresh = recordOf rom n i (progressIn p)
 
     -- a record that steps
-    pub steps-so : (r : Reply) (after : Machine) → p .refusal ≡ 0 → record { reply = r; machine = after } ≡ stepOf upd17132 rom i (p .machine)
-        → fresh ≡ replied rom n (progressIn p) (plus (p .count) (stepCost upd17132 rom i (p .machine))) r after
+    pub steps-so : (r : Reply) (after : Machine) → p .refusal ≡ 0 → record { reply = r; machine = after } ≡ stepOf upd17132 rom (signals i 0) (p .machine)
+        → fresh ≡ replied rom n (progressIn p) (plus (p .count) (stepCost upd17132 rom (signals i 0) (p .machine))) r after
     unfolding recordOf
-    steps-so r after z e = rw (eq-eqb (p .refusal) 0 z) (ap (λ (s : Step). replied rom n (progressIn p) (plus (p .count) (stepCost upd17132 rom i (p .machine))) (s .reply) (s .machine)) (sym e))
+    steps-so r after z e = rw (eq-eqb (p .refusal) 0 z) (ap (λ (s : Step). replied rom n (progressIn p) (plus (p .count) (stepCost upd17132 rom (signals i 0) (p .machine))) (s .reply) (s .machine)) (sym e))
 
     -- what was counted and the step's cost: the count of the definition, and little more than before
-    pub total-is : (cost sum : Count) → cost ≡ stepCost upd17132 rom i (p .machine) → sum ≡ plus (p .count) cost
-        → sum ≡ plus (p .count) (stepCost upd17132 rom i (p .machine))
+    pub total-is : (cost sum : Count) → cost ≡ stepCost upd17132 rom (signals i 0) (p .machine) → sum ≡ plus (p .count) cost
+        → sum ≡ plus (p .count) (stepCost upd17132 rom (signals i 0) (p .machine))
     total-is cost sum e f = f ∙ ap (plus (p .count)) e
 
-    pub small : (cost : Count) → cost ≡ stepCost upd17132 rom i (p .machine) → (cost .steps ≤ 1) × (cost .cycles ≤ 2)
+    pub small : (cost : Count) → cost ≡ stepCost upd17132 rom (signals i 0) (p .machine) → (cost .steps ≤ 1) × (cost .cycles ≤ 2)
     small cost e =
         let m = p .machine in
-        let r = stepOf upd17132 rom i m .reply in
+        let r = stepOf upd17132 rom (signals i 0) m .reply in
         rw e (cost-below r (nextCycles rom m), cost-cycles r (nextCycles rom m) (cycles-few (getD rom (m .control .pc) 0) (m .control .skip)))
 
     abbrev Few : Count → Type 0
     Few sum = (sum .steps ≤ p .count .steps + 1) × (sum .cycles ≤ p .count .cycles + 2)
 
-    pub few : (cost sum : Count) → cost ≡ stepCost upd17132 rom i (p .machine) → sum ≡ plus (p .count) cost → Few sum
+    pub few : (cost sum : Count) → cost ≡ stepCost upd17132 rom (signals i 0) (p .machine) → sum ≡ plus (p .count) cost → Few sum
     few cost sum e f = rw f (omega (arith, small cost e .0), omega (arith, small cost e .1))
 
     -- the promise, by what a record comes to

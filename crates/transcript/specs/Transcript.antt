@@ -13,6 +13,7 @@ use Rattle.cpu.specs.Reply.{Reply, done, inStandby, refused}
 use Rattle.machine.specs.Parts.{cellsOf, resetMachine}
 use Rattle.cpu.specs.Step.{stepOf}
 use Rattle.cpu.specs.declared.Count.{Count}
+use Rattle.machine.specs.Signals.{signals}
 use Rattle.machine.specs.declared.Input.{Input}
 use Rattle.machine.specs.declared.Machine.{Machine}
 use Rattle.verifier.specs.Verdict as verdict
@@ -73,11 +74,12 @@ module _ (rom : List ℕ) where
   }
   replied number p count (refused n) after = record { progress = record { machine = after; count = count; refusal = n }; text = [] }
 
-  -- one record; after a refusal there is none
+  -- one record; after a refusal there is none. The pulse is "0 with a station file" (document 02, E4)
   unfoldable pub recordOf : ℕ → Input → Progress → Outcome
   recordOf number i p =
       cond (eqb (p .refusal) 0)
-      (let s = stepOf upd17132 rom i (p .machine) in replied number p (plus (p .count) (stepCost upd17132 rom i (p .machine))) (s .reply) (s .machine))
+      (let s = stepOf upd17132 rom (signals i 0) (p .machine) in
+      replied number p (plus (p .count) (stepCost upd17132 rom (signals i 0) (p .machine))) (s .reply) (s .machine))
       (record { progress = p; text = [] })
 
   -- the records in turn, numbered from 1

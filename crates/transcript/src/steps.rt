@@ -78,7 +78,7 @@ fn put_record(
     let before = progress.machine;
     let control = before.control;
     let pc = control.pc;
-    let stepped = cpu::step(rom, before, input);
+    let stepped = cpu::step(rom, before, input, 0);
     let answer = stepped.answer;
     let after = stepped.machine;
     let cost = stepped.count;

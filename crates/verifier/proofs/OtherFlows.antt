@@ -21,7 +21,7 @@ module _ (chip : Chip) (rom sheet : List ℕ) (w : ℕ) (e : Entry) where
   no-call (Calls to) h = absurd (miss (0 ∷ 1 ∷ 2 ∷ 4 ∷ 5 ∷ 6 ∷ 7 ∷ 8 ∷ []) 3 tt h)
   no-call (Returns skip) h = refl
   no-call ReadsTable h = refl
-  no-call StandsBy h = refl
+  no-call (StandsBy rest) h = refl
   no-call (ByAr op) h = refl
   no-call (Refused n) h = refl
 
@@ -32,6 +32,6 @@ no-return e (Branches to) h = refl
 no-return e (Calls to) h = refl
 no-return e (Returns skip) h = absurd (miss (0 ∷ 1 ∷ 2 ∷ 3 ∷ 5 ∷ 6 ∷ 7 ∷ 8 ∷ []) 4 tt h)
 no-return e ReadsTable h = refl
-no-return e StandsBy h = refl
+no-return e (StandsBy rest) h = refl
 no-return e (ByAr op) h = refl
 no-return e (Refused n) h = refl

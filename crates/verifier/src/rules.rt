@@ -56,7 +56,7 @@ fn rule_3(rom: &[u16], flow: Flow, entry: u8) -> bool
         Flow::Calls(_) => true,
         Flow::Returns(_) => true,
         Flow::ReadsTable => table_allowed(rom, entry),
-        Flow::StandsBy => true,
+        Flow::StandsBy(_) => true,
         Flow::ByAr(_) => false,
         Flow::Refused(_) => false,
     }
@@ -84,7 +84,7 @@ fn rule_4(rom: &[u16], sheet: &[u8], word: u16, flow: Flow, entry: u8) -> bool
         Flow::Calls(_) => is_met(rom, sheet, after, entry),
         Flow::Returns(_) => true,
         Flow::ReadsTable => is_met(rom, sheet, after, entry),
-        Flow::StandsBy => is_met(rom, sheet, after, entry),
+        Flow::StandsBy(_) => is_met(rom, sheet, after, entry),
         Flow::ByAr(_) => true,
         Flow::Refused(_) => true,
     }

@@ -4,8 +4,7 @@ use borrow.Author.Needs.{needs}
 use Rattle.laws.proofs.Arms.{in-arm}
 use Rattle.isa.specs.Decode.{columns}
 use Rattle.control.specs.Flow.{unsupported}
-use Rattle.control.specs.declared.Flow.the-variants.{StandsBy}
-use Rattle.control.proofs.Opcodes.{columnFlow, groupFlow, other-nibble, other-fixed}
+use Rattle.control.proofs.Opcodes.{groupFlow, other-nibble, other-fixed}
 use Rattle.control.proofs.words.of_group.Statement.{statement}
 use Rattle.control.proofs.words.of_group.Tie as tie
 
@@ -15,66 +14,78 @@ returns c =
 
 returns-2 : tie.Need-returns-2
 unfolding columns
-returns-2 c = in-arm (columnFlow _ _) unsupported (0b0010 ∷ 0b1010 ∷ []) refl _ (c .match .keys1)
+returns-2 c = rw (c .before .before .match .keys1, c .onward-if .ensures, c .before .in-file .ensures)
 
 returns-3 : tie.Need-returns-3
 unfolding columns
-returns-3 c = in-arm (columnFlow _ _) unsupported (0b0011 ∷ 0b1011 ∷ []) refl _ (c .match .keys2)
+returns-3 c = rw (c .before .before .match .keys2, c .onward-if2 .ensures, c .before .in-file2 .ensures)
 
 returns-4 : tie.Need-returns-4
 unfolding columns
-returns-4 c = rw (c .match2 .keys1)
+returns-4 c = rw (c .before .match .keys3, c .onward-if3 .ensures)
 
 returns-5 : tie.Need-returns-5
 unfolding columns
-returns-5 c = in-arm (groupFlow _) StandsBy (0b010_1111 ∷ 0b011_1111 ∷ []) refl _ (c .match2 .keys2)
+returns-5 c = rw (c .before .match .keys4, c .onward-if4 .ensures)
 
 returns-6 : tie.Need-returns-6
 unfolding columns
-returns-6 c = rw (c .before .if1 .left, c .match3 .keys1)
+returns-6 c = rw (c .match2 .keys1)
 
 returns-7 : tie.Need-returns-7
 unfolding columns
-returns-7 c = rw (c .before .if1 .left, c .match3 .keys2)
+returns-7 c = rw (c .match2 .keys2)
 
 returns-8 : tie.Need-returns-8
 unfolding columns
-returns-8 c = rw (c .before .if1 .left, c .match3 .keys3)
+returns-8 c = rw (c .match2 .keys3)
 
 returns-9 : tie.Need-returns-9
 unfolding columns
-returns-9 c = rw (c .before .if1 .left, c .match3 .keys4)
+returns-9 c = rw (c .before .if1 .left, c .match3 .keys1)
 
 returns-10 : tie.Need-returns-10
 unfolding columns
-returns-10 c = rw (c .before .if1 .left, c .match3 .keys5)
+returns-10 c = rw (c .before .if1 .left, c .match3 .keys2)
 
 returns-11 : tie.Need-returns-11
 unfolding columns
-returns-11 c = rw (c .before .if1 .left, c .match3 .keys6)
+returns-11 c = rw (c .before .if1 .left, c .match3 .keys3)
 
 returns-12 : tie.Need-returns-12
 unfolding columns
-returns-12 c = rw (c .before .if1 .left, c .match3 .keys7)
+returns-12 c = rw (c .before .if1 .left, c .match3 .keys4)
 
 returns-13 : tie.Need-returns-13
 unfolding columns
-returns-13 c = rw (c .before .if1 .left, c .match3 .keys8)
+returns-13 c = rw (c .before .if1 .left, c .match3 .keys5)
 
 returns-14 : tie.Need-returns-14
 unfolding columns
-returns-14 c = rw (c .before .if1 .left, c .match3 .keys9)
+returns-14 c = rw (c .before .if1 .left, c .match3 .keys6)
 
 returns-15 : tie.Need-returns-15
 unfolding columns
-returns-15 c = rw (c .before .if1 .left) (in-arm (groupFlow 0) unsupported (0b000_1111 ∷ 0b001_1111 ∷ 0b100_1110 ∷ []) refl _ (c .match3 .keys10))
+returns-15 c = rw (c .before .if1 .left, c .match3 .keys7)
 
 returns-16 : tie.Need-returns-16
 unfolding columns
-returns-16 c = rw (c .before .if1 .left, c .match3 .keys11)
+returns-16 c = rw (c .before .if1 .left, c .match3 .keys8)
 
 returns-17 : tie.Need-returns-17
-returns-17 c =
+unfolding columns
+returns-17 c = rw (c .before .if1 .left, c .match3 .keys9)
+
+returns-18 : tie.Need-returns-18
+unfolding columns
+returns-18 c = rw (c .before .if1 .left) (in-arm (groupFlow 0) unsupported (0b000_1111 ∷ 0b001_1111 ∷ 0b100_1110 ∷ []) refl _ (c .match3 .keys10))
+
+returns-19 : tie.Need-returns-19
+unfolding columns
+returns-19 c = rw (c .before .if1 .left, c .match3 .keys11)
+
+returns-20 : tie.Need-returns-20
+returns-20 c =
     rw (c .before .if1 .left)
     (other-fixed _ (search needs) (c .before .before .before .match .rest) (c .before .before .match2 .rest) (c .match3 .rest))
 
@@ -82,6 +93,15 @@ pub of-group-spec : {M : Type 1} → statement M
 of-group-spec =
     tie.close
     (tie.spec
+    (λ c. search needs)
+    (λ c. search needs)
+    (λ c. search needs)
+    (λ c κs. search needs)
+    (λ c κs. search needs)
+    (λ c κs. search needs)
+    (λ c κs. search needs)
+    (λ c κs. search needs)
+    (λ c κs. search needs)
     returns
     returns-2
     returns-3
@@ -98,4 +118,7 @@ of-group-spec =
     returns-14
     returns-15
     returns-16
-    returns-17)
+    returns-17
+    returns-18
+    returns-19
+    returns-20)

@@ -1,5 +1,6 @@
 use mathlib.Core.Path.{refl}
 use Rattle.control.specs.Control.{controlOf}
+use Rattle.operations.specs.Settings.{settingsOf}
 use Rattle.operations.specs.Writes.{writesAt, writesOf}
 use Rattle.cpu.specs.Execute.{writtenOf, transferBy, pastTable}
 use Rattle.cpu.proofs.Settled.{completes, refuses}
@@ -8,16 +9,16 @@ use Rattle.cpu.proofs.execution.pop_ar.Statement.{statement}
 use Rattle.cpu.proofs.execution.pop_ar.Tie as tie
 
 returns : tie.Need-returns
-unfolding transferBy controlOf pastTable writtenOf writesOf writesAt
-returns c = λ rom input.
+unfolding transferBy controlOf pastTable writtenOf writesOf writesAt settingsOf
+returns c = λ rom signals p.
     let g = c .enum-told .given in
-    rw (g .1) (refuses _ rom input _ _ _ _ (g .0 .0) _ (rw (g .1) at (c .before .before .pop .ensures)))
+    rw (g .1) (refuses _ rom signals _ _ p _ _ (g .0 .0) _ (rw (g .1) at (c .before .before .pop .ensures)))
 
 returns-2 : tie.Need-returns-2
-unfolding transferBy controlOf pastTable writtenOf writesOf writesAt
-returns-2 c = λ rom input.
+unfolding transferBy controlOf pastTable writtenOf writesOf writesAt settingsOf
+returns-2 c = λ rom signals p.
     let g = c .before .before .before .transfer .given in
-    completes _ rom input _ _ _ _ _ _ (g .0 .0) (rw (g .1) at (c .before .before .before .before .before .pop .ensures)) refl
+    completes _ rom signals _ _ p _ _ _ _ (g .0 .0) (rw (g .1) at (c .before .before .before .before .before .pop .ensures)) refl
     (rw (← c .before .before .before .before .before .before .before .top .ensures) (c .write-ar .ensures))
 
 pub pop-ar-spec : {M : Type 1} → statement M

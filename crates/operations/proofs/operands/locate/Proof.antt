@@ -41,39 +41,39 @@ returns-9 c = rw (c .before .before .before .instruction9 .given .1, c .both9 .e
 
 returns-10 : tie.Need-returns-10
 unfolding addressesOf addressIn
-returns-10 c = rw (c .before .enum-told .given .1, c .no-operands .ensures)
+returns-10 c = rw (c .before .before .before .instruction10 .given .1, c .both10 .ensures, c .before .file .ensures)
 
 returns-11 : tie.Need-returns-11
 unfolding addressesOf addressIn
-returns-11 c = rw (c .before .enum-told2 .given .1, c .no-operands2 .ensures)
+returns-11 c = rw (c .before .before .before .instruction11 .given .1, c .both11 .ensures, c .before .file2 .ensures)
 
 returns-12 : tie.Need-returns-12
 unfolding addressesOf addressIn
-returns-12 c = rw (c .before .enum-told3 .given .1, c .no-operands3 .ensures)
+returns-12 c = rw (c .before .enum-told .given .1, c .no-operands .ensures)
 
 returns-13 : tie.Need-returns-13
 unfolding addressesOf addressIn
-returns-13 c = rw (c .before .enum-told4 .given .1, c .no-operands4 .ensures)
+returns-13 c = rw (c .before .enum-told2 .given .1, c .no-operands2 .ensures)
 
 returns-14 : tie.Need-returns-14
 unfolding addressesOf addressIn
-returns-14 c = rw (c .before .enum-told5 .given .1, c .no-operands5 .ensures)
+returns-14 c = rw (c .before .enum-told3 .given .1, c .no-operands3 .ensures)
 
 returns-15 : tie.Need-returns-15
 unfolding addressesOf addressIn
-returns-15 c = rw (c .before .enum-told6 .given .1, c .no-operands6 .ensures)
+returns-15 c = rw (c .before .enum-told4 .given .1, c .no-operands4 .ensures)
 
 returns-16 : tie.Need-returns-16
 unfolding addressesOf addressIn
-returns-16 c = rw (c .before .enum-told7 .given .1, c .no-operands7 .ensures)
+returns-16 c = rw (c .before .enum-told5 .given .1, c .no-operands5 .ensures)
 
 returns-17 : tie.Need-returns-17
 unfolding addressesOf addressIn
-returns-17 c = rw (c .before .enum-told8 .given .1, c .no-operands8 .ensures)
+returns-17 c = rw (c .before .enum-told6 .given .1, c .no-operands6 .ensures)
 
 returns-18 : tie.Need-returns-18
 unfolding addressesOf addressIn
-returns-18 c = rw (c .before .enum-told9 .given .1, c .no-operands9 .ensures)
+returns-18 c = rw (c .before .enum-told7 .given .1, c .no-operands7 .ensures)
 
 pub locate-spec : {M : Type 1} → statement M
 locate-spec =
@@ -113,7 +113,9 @@ locate-spec =
     (λ c κs. search needs)
     (λ c. search needs)
     (λ c κs. search needs)
+    (λ c κs. search needs)
     (λ c. search needs)
+    (λ c κs. search needs)
     (λ c κs. search needs)
     (λ c. search needs)
     (λ c κs. search needs)

@@ -10,12 +10,12 @@ use Rattle.peripherals.proofs.registers.peek.Tie as tie
 returns : tie.Need-returns
 returns c =
     let a = c .before .before .args in
-    let l : length (a .p .registers) ≡ 7 = search needs in
-    peek-past (a .p) (a .rf) (omega (arith, l, c .before .place .ensures, c .if1 .taken))
+    let l : length (a .t1) ≡ 7 = search needs in
+    peek-past (a .t1) (a .rf) (omega (arith, l, c .before .place .ensures, c .if1 .taken))
 
 returns-2 : tie.Need-returns-2
 unfolding peekOf
-returns-2 c = rw (c .before .before .place .ensures)
+returns-2 c = rw (c .before .place .ensures)
 
 pub peek-spec : {M : Type 1} → statement M
 peek-spec = tie.close (tie.spec (λ c κs. search needs) returns (λ c. search needs) returns-2)

@@ -1,8 +1,8 @@
 use borrow.Author.Needs.{needs}
 use mathlib.Core.Path.{sym, _∙_}
 use borrow.Author.Tests.{ne-eqb, not-true, not-false}
-use Rattle.peripherals.proofs.timer.counted.Statement.{statement}
-use Rattle.peripherals.proofs.timer.counted.Tie as tie
+use Rattle.peripherals.proofs.clock.counted.Statement.{statement}
+use Rattle.peripherals.proofs.clock.counted.Tie as tie
 
 returns : tie.Need-returns
 returns c = rw (c .if1 .taken)

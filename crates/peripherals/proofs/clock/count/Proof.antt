@@ -1,8 +1,8 @@
 use borrow.Author.Needs.{needs}
 use borrow.Author.Tests.{ne-eqb, eq-eqb}
 use Rattle.peripherals.specs.Timer.{countOf}
-use Rattle.peripherals.proofs.timer.count.Statement.{statement}
-use Rattle.peripherals.proofs.timer.count.Tie as tie
+use Rattle.peripherals.proofs.clock.count.Statement.{statement}
+use Rattle.peripherals.proofs.clock.count.Tie as tie
 
 returns : tie.Need-returns
 unfolding countOf

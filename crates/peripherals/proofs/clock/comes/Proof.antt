@@ -2,8 +2,8 @@ use native.Mathlib.Omega.{arith}
 use borrow.Author.Needs.{needs}
 use Rattle.peripherals.specs.Timer.{periodOf}
 use Rattle.peripherals.proofs.Crossing.{own-clock, pin-clock}
-use Rattle.peripherals.proofs.timer.comes.Statement.{statement}
-use Rattle.peripherals.proofs.timer.comes.Tie as tie
+use Rattle.peripherals.proofs.clock.comes.Statement.{statement}
+use Rattle.peripherals.proofs.clock.comes.Tie as tie
 
 returns : tie.Need-returns
 unfolding periodOf
