@@ -17,7 +17,7 @@ use pollwezen_host::{self as proved, LentMachine};
 use reference::station::{read_into, write, write_into};
 use reference::{transcript, Input, Machine, Station, Verdict};
 
-use roms::INPUT;
+use roms::{INPUT, PULSE};
 use row::{Row, Side};
 
 /// What stands in a lent buffer before a call.
@@ -43,10 +43,12 @@ fn main() {
     run("run of 65,535 steps, arithmetic with index and decimal", &arithmetic, pairs, 65_535);
     run("run of 65,535 steps, calls", &roms::calls(), pairs, 65_535);
     run("run of 65,535 steps, one branch", &roms::branch(), pairs, 65_535);
+    run("run of 65,535 steps, polling the timer", &roms::poll(), pairs, 65_535);
     for boxes in [1, 10, 100, 1_000] {
         runs_in_turn(&blink, pairs, boxes);
     }
-    single_steps(&blink, pairs);
+    single_steps("single steps, blinking", &blink, pairs);
+    single_steps("single steps, standing in HALT", &roms::halt(), pairs);
     let station = roms::largest();
     check(&station, pairs);
     files(&station, pairs);
@@ -66,7 +68,7 @@ fn run(name: &str, rom: &[u16], pairs: usize, budget: u32) {
         refill: |machine| *machine = Machine::reset(),
         call: |machine: &mut Machine| {
             let (rom, input, budget) = (black_box(rom), black_box(&INPUT), black_box(budget));
-            let report = reference::run(rom, machine, input, budget);
+            let report = reference::run(rom, machine, input, black_box(PULSE), budget);
             (report.count.steps, report.count.cycles, report.refusal)
         },
     };
@@ -75,7 +77,7 @@ fn run(name: &str, rom: &[u16], pairs: usize, budget: u32) {
         refill: |machine| *machine = proved::reset(),
         call: |machine: &mut Machine| {
             let (rom, input, budget) = (black_box(rom), black_box(&INPUT), black_box(budget));
-            let report = proved::run(rom, machine, input, budget);
+            let report = proved::run(rom, machine, input, black_box(PULSE), budget);
             (report.steps, report.cycles, report.number)
         },
     };
@@ -94,7 +96,7 @@ fn runs_in_turn(rom: &[u16], pairs: usize, boxes: usize) {
             let (rom, input) = (black_box(rom), black_box(&INPUT));
             machines
                 .iter_mut()
-                .map(|m| reference::run(rom, m, input, STEPS).count.cycles)
+                .map(|m| reference::run(rom, m, input, black_box(PULSE), STEPS).count.cycles)
                 .sum::<u32>()
         },
     };
@@ -103,7 +105,10 @@ fn runs_in_turn(rom: &[u16], pairs: usize, boxes: usize) {
         refill: |machines| machines.fill(proved::reset()),
         call: |machines: &mut Vec<Machine>| {
             let (rom, input) = (black_box(rom), black_box(&INPUT));
-            machines.iter_mut().map(|m| proved::run(rom, m, input, STEPS).cycles).sum::<u32>()
+            machines
+                .iter_mut()
+                .map(|m| proved::run(rom, m, input, black_box(PULSE), STEPS).cycles)
+                .sum::<u32>()
         },
     };
     row.print(native, proved, |a, b| a == b);
@@ -111,15 +116,16 @@ fn runs_in_turn(rom: &[u16], pairs: usize, boxes: usize) {
 
 /// Single steps, each with its range test. The proved step is called on a
 /// record in C's layout, as a host keeps it.
-fn single_steps(rom: &[u16], pairs: usize) {
+fn single_steps(name: &str, rom: &[u16], pairs: usize) {
     const STEPS: u32 = 10_000;
-    let row = Row { name: "single steps, blinking", units: STEPS.into(), pairs };
+    let row = Row { name, units: STEPS.into(), pairs };
     let native = Side {
         lent: Machine::reset(),
         refill: |machine| *machine = Machine::reset(),
         call: |machine: &mut Machine| {
             for _ in 0..STEPS {
-                black_box(reference::step(black_box(rom), machine, black_box(&INPUT)));
+                let (rom, input, pulse) = (black_box(rom), black_box(&INPUT), black_box(PULSE));
+                black_box(reference::step(rom, machine, input, pulse));
             }
         },
     };
@@ -128,7 +134,8 @@ fn single_steps(rom: &[u16], pairs: usize) {
         refill: |lent| *lent = LentMachine::from(&proved::reset()),
         call: |lent: &mut LentMachine| {
             for _ in 0..STEPS {
-                black_box(proved::step_lent(black_box(rom), lent, black_box(&INPUT)));
+                let (rom, input, pulse) = (black_box(rom), black_box(&INPUT), black_box(PULSE));
+                black_box(proved::step_lent(rom, lent, input, pulse));
             }
         },
     };

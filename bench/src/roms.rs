@@ -3,26 +3,56 @@
 use reference::Instruction::{self, *};
 use reference::{encode, verify, Input, Station, Verdict};
 
-/// The input of every step.
+/// The input of every step. Its directions are not read.
 pub const INPUT: Input =
     Input { pins: [5, 9, 3, 12, 1], directions: [15, 0, 15, 3, 2], release: 0 };
+
+/// The pulse bit of every step.
+pub const PULSE: u8 = 0;
 
 fn rom(program: &[Instruction]) -> Vec<u16> {
     program.iter().map(|&i| encode(i).expect("operands fit")).collect()
 }
 
-/// A lamp that changes each time a counter of two nibbles has gone round.
+/// A lamp that changes each time a counter of two nibbles has gone round. Its
+/// port is made an output first.
 pub fn blink() -> Vec<u16> {
     rom(&[
+        MovMN { m: 0x78, n: 15 },
+        Poke { rf: 0x35 },
         XorMN { m: 0x70, n: 1 },
         MovMN { m: 0x10, n: 15 },
         MovMN { m: 0x11, n: 15 },
         SubMN { m: 0x10, n: 1 },
         SubcMN { m: 0x11, n: 0 },
         Skt { m: 0x7F, n: 4 },
-        Br { addr: 3 },
-        Br { addr: 0 },
+        Br { addr: 5 },
+        Br { addr: 2 },
     ])
+}
+
+/// A lamp that changes each time the timer has come to 30H, its modulo register,
+/// with the quickest clock.
+pub fn poll() -> Vec<u16> {
+    rom(&[
+        MovMN { m: 0x78, n: 15 },
+        Poke { rf: 0x35 },
+        MovMN { m: 0x0E, n: 3 },
+        MovMN { m: 0x0F, n: 0 },
+        Put { p: 0x03 },
+        MovMN { m: 0x78, n: 0b1101 },
+        Poke { rf: 0x11 },
+        Get { p: 0x02 },
+        Ske { m: 0x0E, n: 3 },
+        Br { addr: 7 },
+        XorMN { m: 0x70, n: 1 },
+        Br { addr: 7 },
+    ])
+}
+
+/// HALT, and nothing releases.
+pub fn halt() -> Vec<u16> {
+    rom(&[Halt { cond: 0 }])
 }
 
 /// Sums and differences in decimal, with the index register.

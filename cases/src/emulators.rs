@@ -15,14 +15,21 @@ pub struct Station {
     pub inputs: Vec<u8>,
 }
 
+/// The input record, and the pulse bit beside it.
+#[derive(Clone, Default, PartialEq, Eq)]
+pub struct Board {
+    pub input: Input,
+    pub pulse: u8,
+}
+
 /// Bytes of an input record.
 pub const RECORD: usize = 11;
 
 pub trait Emulator {
     fn name(&self) -> &'static str;
     fn reset(&self) -> Machine;
-    fn step(&self, rom: &[u16], machine: &mut Machine, input: &Input) -> u8;
-    fn run(&self, rom: &[u16], machine: &mut Machine, input: &Input, budget: u32) -> RunReply;
+    fn step(&self, rom: &[u16], machine: &mut Machine, board: &Board) -> u8;
+    fn run(&self, rom: &[u16], machine: &mut Machine, board: &Board, budget: u32) -> RunReply;
     fn check(&self, rom: &[u16], sheet: &[u8]) -> Verdict;
     /// What else a word is decoded to, where it is not this.
     fn decodes_else(&self, word: u16, row: Option<Row>) -> Option<String>;
@@ -67,12 +74,12 @@ impl Emulator for Library {
         library::reset()
     }
 
-    fn step(&self, rom: &[u16], machine: &mut Machine, input: &Input) -> u8 {
-        library::step(rom, machine, input)
+    fn step(&self, rom: &[u16], machine: &mut Machine, board: &Board) -> u8 {
+        library::step(rom, machine, &board.input, board.pulse)
     }
 
-    fn run(&self, rom: &[u16], machine: &mut Machine, input: &Input, budget: u32) -> RunReply {
-        library::run(rom, machine, input, budget)
+    fn run(&self, rom: &[u16], machine: &mut Machine, board: &Board, budget: u32) -> RunReply {
+        library::run(rom, machine, &board.input, board.pulse, budget)
     }
 
     fn check(&self, rom: &[u16], sheet: &[u8]) -> Verdict {
@@ -140,16 +147,17 @@ impl Emulator for Second {
         Machine::reset()
     }
 
-    fn step(&self, rom: &[u16], machine: &mut Machine, input: &Input) -> u8 {
-        match reference::step(rom, machine, input) {
+    fn step(&self, rom: &[u16], machine: &mut Machine, board: &Board) -> u8 {
+        match reference::step(rom, machine, &board.input, board.pulse) {
             Answer::Done => 0,
             Answer::Standby => 255,
             Answer::Refused(number) => number,
         }
     }
 
-    fn run(&self, rom: &[u16], machine: &mut Machine, input: &Input, budget: u32) -> RunReply {
-        let Report { count, refusal } = reference::run(rom, machine, input, budget);
+    fn run(&self, rom: &[u16], machine: &mut Machine, board: &Board, budget: u32) -> RunReply {
+        let Board { input, pulse } = board;
+        let Report { count, refusal } = reference::run(rom, machine, input, *pulse, budget);
         RunReply { steps: count.steps, cycles: count.cycles, number: refusal }
     }
 

@@ -8,6 +8,10 @@
 //! file, line and name, and makes the exit status 1; so does a file that has
 //! not as many cases as its last line tells.
 //!
+//!     cases --second
+//!
+//! runs them in the second emulator alone.
+//!
 //!     cases --faults
 //!
 //! runs them with each deliberate fault in the second emulator (planted.rs).
@@ -55,17 +59,21 @@ fn files() -> Box<dyn Bench> {
     Box::<files::Files>::default()
 }
 
-const KINDS: [Kind; 9] = [
+const KINDS: [Kind; 11] = [
     Kind { name: "printed", bench: || Box::new(words::Words) },
     Kind { name: "words", bench: || Box::new(words::Words) },
     Kind { name: "data", bench: programs },
     Kind { name: "programs", bench: programs },
     Kind { name: "cycles", bench: programs },
+    Kind { name: "registers", bench: programs },
+    Kind { name: "timer", bench: programs },
     Kind { name: "host", bench: programs },
     Kind { name: "checks", bench: || Box::<checks::Checks>::default() },
     Kind { name: "files", bench: files },
     Kind { name: "texts", bench: files },
 ];
+
+const BOTH: [&dyn Emulator; 2] = [&Library, &Second];
 
 impl Kind {
     /// Its file, taken apart.
@@ -105,17 +113,17 @@ impl Kind {
     }
 }
 
-fn all_right(folder: &Path) -> Result<bool, String> {
+fn all_right(folder: &Path, emulators: &[&dyn Emulator]) -> Result<bool, String> {
     let (mut total, mut wrong) = (0, vec![]);
     for kind in &KINDS {
         let script = kind.script(folder)?;
-        wrong.extend(kind.wrong(&script, &Library));
-        wrong.extend(kind.wrong(&script, &Second));
+        emulators.iter().for_each(|emulator| wrong.extend(kind.wrong(&script, *emulator)));
         println!("cases: {}: {}", kind.name, script.cases);
         total += script.cases;
     }
     wrong.iter().for_each(|text| println!("{text}"));
-    println!("cases: {total} in the library and in the second emulator, {} wrong", wrong.len());
+    let names: Vec<_> = emulators.iter().map(|emulator| emulator.name()).collect();
+    println!("cases: {total} in {}, {} wrong", names.join(" and in "), wrong.len());
     Ok(wrong.is_empty())
 }
 
@@ -130,9 +138,10 @@ fn all_noticed(_: &Path) -> Result<bool, String> {
 fn main() -> ExitCode {
     let data = Path::new(env!("CARGO_MANIFEST_DIR")).join("data");
     let right = match env::args().nth(1) {
-        None => all_right(&data),
+        None => all_right(&data, &BOTH),
         Some(option) if option == "--faults" => all_noticed(&data),
-        Some(folder) => all_right(Path::new(&folder)),
+        Some(option) if option == "--second" => all_right(&data, &[&Second]),
+        Some(folder) => all_right(Path::new(&folder), &BOTH),
     };
     match right {
         Ok(true) => ExitCode::SUCCESS,

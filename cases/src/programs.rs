@@ -34,7 +34,8 @@ impl Programs {
         Ok(())
     }
 
-    /// What a step or run gave, against what is told of it.
+    /// What a step or run gave, against what is told of it. The divider moves by
+    /// the cycles that are told, unless an item tells otherwise.
     fn judged(&self, before: &Setup, given: &str, answer: &str) -> Result<String, String> {
         let is_answer = |item: &&str| {
             let words: Vec<&str> = item.split(' ').collect();
@@ -43,6 +44,11 @@ impl Programs {
         let (answers, items): (Vec<_>, Vec<_>) = answer.split(", ").partition(is_answer);
         let rest = items.contains(&"rest unchanged");
         let mut wanted = if rest { before.clone() } else { self.setup.clone() };
+        let divider = before.machine.peripherals.divider;
+        wanted.machine.peripherals.divider = match cycles(&answers) {
+            0 => divider,
+            cycles => ((usize::from(divider) + cycles) % 128) as u8,
+        };
         for item in items.iter().filter(|item| **item != "rest unchanged") {
             wanted.set(item)?;
         }
@@ -55,8 +61,8 @@ impl Programs {
     }
 
     fn step(&mut self, emulator: &dyn Emulator) -> String {
-        let Setup { machine, input } = &mut self.setup;
-        match emulator.step(&self.rom[..self.words], machine, input) {
+        let Setup { machine, board } = &mut self.setup;
+        match emulator.step(&self.rom[..self.words], machine, board) {
             0 => "done".to_string(),
             255 => "standing".to_string(),
             number => format!("refusal {number}"),
@@ -64,9 +70,9 @@ impl Programs {
     }
 
     fn run(&mut self, budget: u32, emulator: &dyn Emulator) -> String {
-        let Setup { machine, input } = &mut self.setup;
+        let Setup { machine, board } = &mut self.setup;
         let RunReply { steps, cycles, number } =
-            emulator.run(&self.rom[..self.words], machine, input, budget);
+            emulator.run(&self.rom[..self.words], machine, board, budget);
         let refusal = if number == 0 { String::new() } else { format!(", refusal {number}") };
         format!("{steps} steps, {cycles} cycles{refusal}")
     }
@@ -93,6 +99,12 @@ impl Programs {
         let mut items = items.split(", ").filter(|item| !item.is_empty());
         items.try_for_each(|item| self.setup.set(item))
     }
+}
+
+/// The cycles that are told: a run's, or one for a step that is done.
+fn cycles(answers: &[&str]) -> usize {
+    let told = answers.iter().find_map(|answer| answer.strip_suffix(" cycles")?.parse().ok());
+    told.unwrap_or(usize::from(answers.contains(&"done")))
 }
 
 impl Bench for Programs {

@@ -5,15 +5,18 @@
 //!     cell 00 10              one cell, a byte
 //!     PC 3FF
 //!     levels 2 001 011        the open levels, and the stack from its first place
-//!     skip 1, standing 1      the marks
-//!     HALT 004                in standby behind a HALT or STOP at that address
+//!     skip 1, standing 1      the marks; of standby 1 is HALT's and 2 STOP's
+//!     HALT 004, STOP 004      in standby behind a HALT or STOP at that address
+//!     rf 11 9                 a control register, by its address
+//!     modulo 64, counter F0, divider 7F
 //!     CY 1, Z 0               a flag of PSW
 //!     pins 1 2 4 8 3          P0A to P0E
-//!     directions F F F F F
-//!     release 1
+//!     directions F F F F F    the input record's, which are not read
+//!     release 1, pulse 1
 
-use reference::{Input, Machine};
+use reference::{Machine, Peripherals};
 
+use crate::emulators::Board;
 use crate::scan::{byte, hex, word};
 
 /// PSW, and two of its flags.
@@ -21,22 +24,25 @@ const PSW: usize = 0x7F;
 const CY: u8 = 0b0100;
 const Z: u8 = 0b0010;
 
+/// The addresses of the control registers, in the record's order.
+const ADDRESSES: [u8; 7] = [0x11, 0x12, 0x24, 0x32, 0x33, 0x34, 0x35];
+
 #[derive(Clone, PartialEq, Eq)]
 pub struct Setup {
     pub machine: Machine,
-    pub input: Input,
+    pub board: Board,
 }
 
 impl Setup {
-    /// A reset machine, and ports that read as memory.
+    /// A reset machine, and inputs of zeros.
     pub fn new() -> Setup {
-        let input = Input { directions: [15; 5], ..Input::default() };
-        Setup { machine: Machine::reset(), input }
+        Setup { machine: Machine::reset(), board: Board::default() }
     }
 
     /// Sets what an item names.
     pub fn set(&mut self, item: &str) -> Result<(), String> {
-        let Setup { machine, input } = self;
+        let Setup { machine, board: Board { input, pulse } } = self;
+        let timer = &mut machine.peripherals;
         match item.split_whitespace().collect::<Vec<_>>()[..] {
             ["PC", address] => machine.pc = word(address)?,
             ["levels", open, ref stack @ ..] if stack.len() <= 5 => {
@@ -48,10 +54,15 @@ impl Setup {
             }
             ["skip", mark] => machine.skip = byte(mark)?,
             ["standing", mark] => machine.standby = byte(mark)?,
-            ["HALT", address] => {
-                machine.standby = 1;
+            [name @ ("HALT" | "STOP"), address] => {
+                machine.standby = if name == "HALT" { 1 } else { 2 };
                 machine.pc = (word(address)? + 1) % 1024;
             }
+            ["rf", address, nibble] => *register(timer, byte(address)?)? = byte(nibble)?,
+            ["modulo", value] => timer.modulo = byte(value)?,
+            ["counter", value] => timer.counter = byte(value)?,
+            ["divider", value] => timer.divider = byte(value)?,
+            ["pulse", bit] => *pulse = byte(bit)?,
             ["CY", bit] => self.set_flag(CY, bit)?,
             ["Z", bit] => self.set_flag(Z, bit)?,
             ["pins", ref pins @ ..] => input.pins = nibbles(pins)?,
@@ -90,11 +101,23 @@ impl Setup {
         }
         let rest = |m: &Machine| {
             let Machine { pc, stack, levels, skip, standby, .. } = m;
-            format!("PC {pc:03X}, levels {levels} {stack:03X?}, skip {skip}, standing {standby}")
+            let Peripherals { registers, modulo, counter, divider } = m.peripherals;
+            format!(
+                "PC {pc:03X}, levels {levels} {stack:03X?}, skip {skip}, standing {standby}, \
+                 registers {registers:X?}, modulo {modulo:02X}, counter {counter:02X}, \
+                 divider {divider:02X}"
+            )
         };
         let (a, b) = (rest(&wanted.machine), rest(&self.machine));
         (self != wanted).then(|| format!("{b} and not {a}"))
     }
+}
+
+/// A control register by its address.
+fn register(timer: &mut Peripherals, address: u8) -> Result<&mut u8, String> {
+    let place = ADDRESSES.iter().position(|&register| register == address);
+    let place = place.ok_or(format!("{address:02X} is no control register"))?;
+    Ok(&mut timer.registers[place])
 }
 
 /// A nibble for each port.

@@ -2,9 +2,9 @@
 //! and data/printed.cases.
 
 use reference::Instruction::{self, *};
-use reference::{Input, Machine};
+use reference::Machine;
 
-use crate::emulators::Emulator;
+use crate::emulators::{Board, Emulator};
 use crate::scan::{is_word, word, Head};
 use crate::Bench;
 
@@ -153,7 +153,7 @@ fn printed(line: &str) -> Option<u16> {
 
 /// Is a word an instruction by the step?
 fn is_instruction(word: u16, emulator: &dyn Emulator) -> bool {
-    emulator.step(&[word], &mut Machine::reset(), &Input::default()) != 3
+    emulator.step(&[word], &mut Machine::reset(), &Board::default()) != 3
 }
 
 fn all(emulator: &dyn Emulator) -> String {

@@ -3,8 +3,9 @@
 //! in the last line of a text.
 
 use reference::station::read;
-use reference::{Input, Machine};
+use reference::Machine;
 
+use crate::board::Board;
 use crate::host::RunReply;
 use crate::pair::{self, Finding};
 use crate::tally::Tally;
@@ -44,22 +45,41 @@ pub fn add(told: &mut RunReply, rom: &[u16], before: &Machine, number: u8) {
 pub struct Run<'a> {
     pub rom: &'a [u16],
     pub before: &'a Machine,
-    pub input: &'a Input,
+    pub board: &'a Board,
     pub budget: u32,
 }
 
 impl Run<'_> {
+    /// Step by step in both: what the run must report and leave. `see` is told
+    /// of each step: from where, its number, and the run so far.
+    pub fn by_steps(
+        &self,
+        mut see: impl FnMut(&Machine, u8, RunReply, &Machine),
+    ) -> Result<(RunReply, Machine), Finding> {
+        let (mut told, mut machine) = (NONE, self.before.clone());
+        while told.steps < self.budget {
+            let before = machine.clone();
+            let number = pair::step(self.rom, &mut machine, self.board)?;
+            add(&mut told, self.rom, &before, number);
+            see(&before, number, told, &machine);
+            if number != pair::DONE || machine.standby != 0 {
+                break;
+            }
+        }
+        Ok((told, machine))
+    }
+
     /// Both report what is told, and leave `after`.
     pub fn is_as_told(&self, told: RunReply, after: &Machine) -> Result<(), Finding> {
         let mut machine = self.before.clone();
-        let report = pair::run(self.rom, &mut machine, self.input, self.budget)?;
+        let report = pair::run(self.rom, &mut machine, self.board, self.budget)?;
         if report == told && machine == *after {
             return Ok(());
         }
         Err(Finding(format!(
             "{}both report {report:?}, by document 02 {told:?}\n\
              first difference to its steps: {:?}\nROM: {:04X?}\n",
-            pair::case(&format!("run of {}", self.budget), self.rom, self.before, self.input),
+            pair::case(&format!("run of {}", self.budget), self.rom, self.before, self.board),
             pair::difference(&machine, after),
             self.rom
         )))
@@ -71,31 +91,33 @@ impl Run<'_> {
 pub fn run_of_one(
     rom: &[u16],
     before: &Machine,
-    input: &Input,
+    board: &Board,
     number: u8,
     after: &Machine,
 ) -> Result<(), Finding> {
     let mut told = NONE;
     add(&mut told, rom, before, number);
-    Run { rom, before, input, budget: 1 }.is_as_told(told, after)
+    Run { rom, before, board, budget: 1 }.is_as_told(told, after)
 }
 
-/// The last line of a file's text in both, by the file's steps in both. A bad
-/// file has none.
+/// The last line of a file's text in both, by the file's steps in both, with
+/// pulse bit 0. A bad file has none.
 pub fn end(file: &[u8], text: &str, tally: &mut Tally) -> Result<(), Finding> {
     let Ok(station) = read(file) else {
         return Ok(());
     };
     let (mut told, mut machine) = (NONE, pair::reset()?);
     let (mut movts, mut standby) = (0, false);
-    for input in &station.inputs {
+    let mut halts = 0;
+    for &input in &station.inputs {
         let before = machine.clone();
-        let number = pair::step(&station.rom, &mut machine, input)?;
+        let number = pair::step(&station.rom, &mut machine, &Board { input, pulse: 0 })?;
         add(&mut told, &station.rom, &before, number);
         if told.number != 0 {
             break;
         }
         standby |= number == pair::STANDBY;
+        halts += u32::from(number == pair::STANDBY && before.standby == 1);
         movts += u32::from(number == pair::DONE && at_movt(&station.rom, &before));
     }
     let line = format!("END {} {} {}", told.steps, told.cycles, told.number);
@@ -108,6 +130,9 @@ pub fn end(file: &[u8], text: &str, tally: &mut Tally) -> Result<(), Finding> {
         (movts > run, "texts with a MOVT skipped"),
         (run > 0 && told.number != 0, "texts refused after a MOVT"),
         (run > 0 && standby, "texts with a MOVT run and in standby"),
+        (halts > 0, "texts in HALT"),
+        (machine.peripherals.counter > 0, "texts with a pulse"),
+        (told.number == 30, "texts refused with 30"),
     ];
     tally.see_those(&see);
     Ok(())

@@ -2,7 +2,7 @@
 
 use reference::Machine;
 
-use crate::counts::{add, at_movt, Run, NONE};
+use crate::counts::{at_movt, Run, NONE};
 use crate::host::RunReply;
 use crate::pair::{self, Finding};
 use crate::random::Random;
@@ -42,9 +42,13 @@ pub fn run(random: &mut Random, index: u64, tally: &mut Tally) -> Result<(), Fin
         1..=4 => 0,
         _ => random.below(40) as u32,
     };
-    let input = records::input(random);
-    let run = Run { rom: &rom, before: &before, input: &input, budget };
-    let (told, after) = by_steps(run, tally)?;
+    let board = records::board(random);
+    let run = Run { rom: &rom, before: &before, board: &board, budget };
+    let (told, after) = run.by_steps(|before, number, told, _| {
+        if at_movt(&rom, before) {
+            see_movt(before, number, told.steps == budget, tally);
+        }
+    })?;
     run.is_as_told(told, &after)?;
     tally.answer(told.number);
     see_run(run, told, &after, tally);
@@ -79,31 +83,15 @@ fn machine(random: &mut Random, words: usize) -> Machine {
     machine
 }
 
-/// A run step by step in both: what it must report and leave.
-fn by_steps(run: Run, tally: &mut Tally) -> Result<(RunReply, Machine), Finding> {
-    let (mut told, mut machine) = (NONE, run.before.clone());
-    while told.steps < run.budget {
-        let before = machine.clone();
-        let number = pair::step(run.rom, &mut machine, run.input)?;
-        add(&mut told, run.rom, &before, number);
-        if at_movt(run.rom, &before) {
-            see_movt(&before, number, told.steps == run.budget, tally);
-        }
-        if number != pair::DONE || machine.standby == 1 {
-            break;
-        }
-    }
-    Ok((told, machine))
-}
-
 /// So many steps of a run, and then a run of the rest, report as much as the
 /// whole.
 fn is_cut(run: Run, steps: u32, whole: RunReply, after: &Machine) -> Result<(), Finding> {
     let first = Run { budget: steps, ..run };
-    let (told, between) = by_steps(first, &mut Tally::new())?;
+    let (told, between) = first.by_steps(|_, _, _, _| ())?;
     first.is_as_told(told, &between)?;
-    // Released, a machine in standby would go on.
-    if steps > 0 && between.standby == 1 && run.input.release == 1 {
+    // The whole ends in standby. Released, the rest would go on, and in HALT it
+    // moves the timer.
+    if steps > 0 && between.standby != 0 {
         return Ok(());
     }
     let rest = RunReply {
@@ -139,7 +127,7 @@ fn see_run(run: Run, told: RunReply, after: &Machine, tally: &mut Tally) {
     let tables = told.cycles > told.steps;
     tally.see_those(&[
         (tables && told.number != 0, "runs refused after a MOVT"),
-        (tables && after.standby == 1, "runs in standby after a MOVT"),
+        (tables && after.standby != 0, "runs in standby after a MOVT"),
         (cut && at_movt(run.rom, after), "runs cut before a MOVT"),
         (told == NONE && run.budget > 0, "runs that stay in standby"),
         (run.budget == 0, "runs of budget 0"),

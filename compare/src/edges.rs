@@ -1,28 +1,23 @@
 //! The ranges of refusal 1, value by value and not by chance: each byte of the
 //! record and of the inputs at all its 256 values, and PC, stack, ROM and
 //! budget on both sides of each edge. The ROM has NOP in every word, so that
-//! what a call answers and leaves is told here from document 01, and both
-//! emulators are held to it.
+//! what a call answers and leaves is told from documents 01 and 02 (nops.rs),
+//! and both emulators are held to it.
 
 use std::fmt::Debug;
 use std::sync::OnceLock;
 
-use reference::{Input, Machine};
+use reference::{Input, Machine, Peripherals};
 
-use crate::host::{RunReply, VerdictReply};
+use crate::board::Board;
+use crate::host::VerdictReply;
+use crate::nops::Call;
 use crate::pair::{self, Finding};
 use crate::places::*;
 use crate::random::Random;
 use crate::records;
 use crate::tally::Tally;
 use crate::words;
-
-/// What a call is given; its ROM has so many NOPs.
-struct Call {
-    words: usize,
-    machine: Machine,
-    input: Input,
-}
 
 /// The edge `index` in three calls: with all else at its first values, at its
 /// last, and random.
@@ -46,24 +41,35 @@ pub fn edge(random: &mut Random, index: u64, tally: &mut Tally) -> Result<(), Fi
 }
 
 fn first() -> Call {
-    Call { words: 1, machine: Machine::reset(), input: Input::default() }
+    let board = Board { input: Input::default(), pulse: 0 };
+    Call { words: 1, machine: Machine::reset(), board }
 }
 
 fn last() -> Call {
     let cells = std::array::from_fn(|address| free_bits(address) as u8);
-    let machine = Machine { cells, pc: 1_023, stack: [1_023; 5], levels: 5, skip: 1, standby: 1 };
+    let registers = std::array::from_fn(|place| kept_bits(place) as u8);
+    let machine = Machine {
+        cells,
+        pc: 1_023,
+        stack: [1_023; 5],
+        levels: 5,
+        skip: 1,
+        standby: 2,
+        peripherals: Peripherals { registers, modulo: 255, counter: 255, divider: 127 },
+    };
     let input = Input { pins: [15; 5], directions: [15; 5], release: 1 };
-    Call { words: 1_024, machine, input }
+    Call { words: 1_024, machine, board: Board { input, pulse: 1 } }
 }
 
 fn any(random: &mut Random) -> Call {
     let words = 1 + random.below(1_024) as usize;
-    Call { words, machine: records::machine(random, words), input: records::input(random) }
+    Call { words, machine: records::machine(random, words), board: records::board(random) }
 }
 
 impl Edge {
     fn put_into(self, call: &mut Call, budgets: &mut Vec<u32>) {
-        let Call { words, machine, input } = call;
+        let Call { words, machine, board: Board { input, pulse } } = call;
+        let timer = &mut machine.peripherals;
         let (byte, word) = (self.value as u8, self.value as u16);
         match self.place {
             Cell(address) => machine.cells[address] = byte,
@@ -75,9 +81,14 @@ impl Edge {
             }
             Skip => machine.skip = byte,
             Standby => machine.standby = byte,
+            Register(place) => timer.registers[place] = byte,
+            Modulo => timer.modulo = byte,
+            Counter => timer.counter = byte,
+            Divider => timer.divider = byte,
             Pin(port) => input.pins[port] = byte,
             Direction(port) => input.directions[port] = byte,
             Release => input.release = byte,
+            Pulse => *pulse = byte,
             Words => *words = self.value as usize,
             Budget => *budgets = vec![self.value],
         }
@@ -97,7 +108,7 @@ impl Call {
         for &budget in budgets {
             let (told, after) = self.run(edge.in_range(), budget);
             let mut left = self.machine.clone();
-            let report = pair::run(rom, &mut left, &self.input, budget)?;
+            let report = pair::run(rom, &mut left, &self.board, budget)?;
             self.same(edge, &format!("run of {budget}"), (&told, &after), (&report, &left))?;
             tally.answer(report.number);
         }
@@ -107,42 +118,10 @@ impl Call {
         let mut after = self.machine.clone();
         let told = if edge.in_range() { self.step(&mut after) } else { 1 };
         let mut left = self.machine.clone();
-        let number = pair::step(rom, &mut left, &self.input)?;
+        let number = pair::step(rom, &mut left, &self.board)?;
         self.same(edge, "step", (&told, &after), (&number, &left))?;
         tally.answer(number);
         Ok(())
-    }
-
-    /// The answer of a step in range, and the machine after it: each word is
-    /// NOP, skipped or not.
-    fn step(&self, machine: &mut Machine) -> u8 {
-        if machine.standby == 1 && self.input.release == 0 {
-            return pair::STANDBY;
-        }
-        if usize::from(machine.pc) >= self.words {
-            return 2;
-        }
-        machine.pc = if machine.pc == 1_023 { 0 } else { machine.pc + 1 };
-        (machine.skip, machine.standby) = (0, 0);
-        pair::DONE
-    }
-
-    /// What a run reports, and the machine after it. NOP takes one cycle.
-    fn run(&self, in_range: bool, budget: u32) -> (RunReply, Machine) {
-        let mut machine = self.machine.clone();
-        let report = |steps, number| RunReply { steps, cycles: steps, number };
-        if !in_range {
-            return (report(0, 1), machine);
-        }
-        let mut steps = 0;
-        while steps < budget {
-            match self.step(&mut machine) {
-                pair::DONE => steps += 1,
-                pair::STANDBY => break,
-                number => return (report(steps, number), machine),
-            }
-        }
-        (report(steps, 0), machine)
     }
 
     /// Both answered and left the same: that must be what is told.
@@ -158,9 +137,9 @@ impl Call {
         }
         let rom = &nops()[..self.words];
         Err(Finding(format!(
-            "{edge:?}, {}both answer {:?} and leave:\n{}by document 01 {:?}\n\
+            "{edge:?}, {}both answer {:?} and leave:\n{}by documents 01 and 02 {:?}\n\
              first difference to it in the record: {:?}\n",
-            pair::case(call, rom, &self.machine, &self.input),
+            pair::case(call, rom, &self.machine, &self.board),
             got.0,
             pair::show(got.1),
             told.0,

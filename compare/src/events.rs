@@ -1,9 +1,12 @@
 //! Events at boundaries that single steps must meet: those of control, and
 //! operands that the index or a pointer moves.
 
+pub mod timer;
+
 use reference::Machine;
 
 use crate::pair;
+use crate::ports::is_port;
 use crate::tally::Tally;
 use crate::words;
 
@@ -157,10 +160,6 @@ fn cell(machine: &Machine, address: u8) -> u8 {
 
 fn flag(machine: &Machine, address: u8, flag: u8) -> bool {
     cell(machine, address) & flag != 0
-}
-
-fn is_port(address: u8) -> bool {
-    (Machine::P0E..=Machine::P0D).contains(&address)
 }
 
 fn index(machine: &Machine) -> u8 {

@@ -2,8 +2,10 @@
 //! words of demand 3 tested at every moment.
 
 use reference::verify::NEVER;
-use reference::{Input, Machine};
+use reference::Machine;
 
+use crate::board::Board;
+use crate::clock;
 use crate::counts;
 use crate::host::RunReply;
 use crate::pair::{self, Finding};
@@ -11,6 +13,7 @@ use crate::random::Random;
 use crate::records;
 use crate::roms::{passing, Passing};
 use crate::tally::Tally;
+use crate::transfers;
 use crate::verdicts::passes;
 use crate::words;
 
@@ -43,20 +46,20 @@ fn skipping(case: &Passing) -> u8 {
 
 /// One call, with its own inputs and budget, some of them out of range.
 fn call(random: &mut Random, walk: &mut Walk, tally: &mut Tally) -> Result<(), Finding> {
-    let mut input = records::input(random);
+    let mut board = records::board(random);
     if random.once_in(16) {
-        records::spoil_input(random, &mut input);
+        records::spoil_board(random, &mut board);
     }
     if random.once_in(2) {
-        return walk.step(&input, tally).map(|_| ());
+        return walk.step(&board, tally).map(|_| ());
     }
-    let budget = match random.below(24) {
+    let budget = match random.below(32) {
         0 => 65_535,
         1 => 65_536 + random.below(1 << 20) as u32,
         2 => 0,
         _ => random.below(60) as u32,
     };
-    walk.run(&input, budget, tally)
+    walk.run(&board, budget, tally)
 }
 
 /// A machine on its way, and the open calls counted from the words that ran.
@@ -70,23 +73,33 @@ struct Walk<'a> {
 
 impl Walk<'_> {
     /// A step: refused with 1 exactly where its inputs are out of range, and
-    /// never with another number.
-    fn step(&mut self, input: &Input, tally: &mut Tally) -> Result<u8, Finding> {
+    /// never with another number. One that is not completed leaves all but the
+    /// timer, which runs in HALT.
+    fn step(&mut self, board: &Board, tally: &mut Tally) -> Result<u8, Finding> {
         let before = self.machine.clone();
-        let number = pair::step(&self.case.rom, &mut self.machine, input)?;
+        let number = pair::step(&self.case.rom, &mut self.machine, board)?;
         tally.answer(number);
-        let stands = before.standby == 1 && input.release == 0;
-        let expected = match (input.in_range(), stands) {
-            (false, _) => 1,
-            (true, true) => pair::STANDBY,
-            (true, false) => pair::DONE,
+        let (told, peripherals) = match board.in_range() {
+            false => (1, before.peripherals),
+            true if board.keeps_standing(before.standby) => {
+                (pair::STANDBY, clock::after_standing(&before, board.pulse))
+            }
+            true => {
+                let word = self.case.rom[usize::from(before.pc)];
+                (pair::DONE, clock::after_step(&before, word, board.pulse))
+            }
         };
-        let fine = number == expected && (number == pair::DONE || self.machine == before);
-        if !fine {
-            return Err(self.broken(&format!("both steps answer {number} for {input:?}"), &before));
+        let timed = self.machine.peripherals == peripherals;
+        let kept = || self.machine == Machine { peripherals, ..before.clone() };
+        if number != told || !timed || number != pair::DONE && !kept() {
+            return Err(self.broken(&format!("both steps answer {number} for {board:?}"), &before));
         }
-        if number == pair::DONE {
-            self.count(&before, tally);
+        match number {
+            pair::DONE => self.count(&before, board, tally),
+            pair::STANDBY => {
+                tally.see(if before.standby == 1 { "steps in HALT" } else { "steps in STOP" });
+            }
+            _ => {}
         }
         self.moment(&before)?;
         Ok(number)
@@ -94,23 +107,23 @@ impl Walk<'_> {
 
     /// The steps of a run one by one, its moments, and then the run itself: its
     /// counts and its end.
-    fn run(&mut self, input: &Input, budget: u32, tally: &mut Tally) -> Result<(), Finding> {
+    fn run(&mut self, board: &Board, budget: u32, tally: &mut Tally) -> Result<(), Finding> {
         let before = self.machine.clone();
-        let in_range = input.in_range() && budget <= 65_535;
+        let in_range = board.in_range() && budget <= 65_535;
         let mut expected = RunReply { steps: 0, cycles: 0, number: u8::from(!in_range) };
         while in_range && expected.steps < budget {
             let cycles = counts::of_step(&self.case.rom, &self.machine);
-            if self.step(input, tally)? != pair::DONE {
+            if self.step(board, tally)? != pair::DONE {
                 break;
             }
             expected.steps += 1;
             expected.cycles += cycles;
-            if self.machine.standby == 1 {
+            if self.machine.standby != 0 {
                 break;
             }
         }
         let mut machine = before.clone();
-        let report = pair::run(&self.case.rom, &mut machine, input, budget)?;
+        let report = pair::run(&self.case.rom, &mut machine, board, budget)?;
         tally.answer(report.number);
         if report == expected && machine == self.machine {
             return Ok(());
@@ -125,9 +138,10 @@ impl Walk<'_> {
 
     /// A completed step: what it adds to the open calls, and what is worth
     /// counting. A skipped word adds nothing.
-    fn count(&mut self, before: &Machine, tally: &mut Tally) {
+    fn count(&mut self, before: &Machine, board: &Board, tally: &mut Tally) {
         let word = self.case.rom[usize::from(before.pc)];
         let skipped = before.skip == 1;
+        self.count_pulse(before, board, tally);
         let goes_on = skipped || !words::jumps(word);
         if goes_on && before.pc == 1023 && self.machine.pc == 0 {
             tally.see("wraps at 1,023");
@@ -148,6 +162,17 @@ impl Walk<'_> {
             self.open = self.open.wrapping_sub(1);
         } else if word == words::MOVT {
             tally.see("MOVTs");
+        } else if let Some((kind, _)) = transfers::taken(word) {
+            tally.see(kind.name());
+        }
+    }
+
+    /// A step in which the INT clock counts.
+    fn count_pulse(&self, before: &Machine, board: &Board, tally: &mut Tally) {
+        let after = &self.machine.peripherals;
+        let pin = after.registers[0] & clock::TMCK == clock::TMCK;
+        if board.pulse == 1 && pin && after.counter != before.peripherals.counter {
+            tally.see("pulses of the INT pin");
         }
     }
 

@@ -12,19 +12,25 @@
 
 #![deny(unsafe_code)]
 
+mod board;
+mod clock;
 mod codes;
 mod counts;
 mod cycles;
+mod edge_names;
 mod edges;
 mod entries;
 mod events;
 mod files;
+mod findings;
 mod lists;
+mod nops;
 mod pair;
 mod parts;
 mod places;
 #[cfg_attr(not(feature = "faults"), path = "no_faults.rs")]
 mod planted;
+mod ports;
 mod random;
 mod ranges;
 mod records;
@@ -32,6 +38,11 @@ mod roms;
 mod stations;
 mod steps;
 mod tally;
+mod timer;
+mod timer_runs;
+mod timers;
+mod told;
+mod transfers;
 mod verdicts;
 mod words;
 

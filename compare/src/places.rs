@@ -1,5 +1,6 @@
 //! What has a range, and the values at which `edges` tries it: those of refusal
-//! 1, in document 01's words and without either emulator's constants.
+//! 1, in the words of documents 01 and 02 and without either emulator's
+//! constants.
 
 use std::sync::OnceLock;
 
@@ -13,9 +14,15 @@ pub enum Place {
     Stack(usize, u8),
     Skip,
     Standby,
+    /// A control register by its place in the record.
+    Register(usize),
+    Modulo,
+    Counter,
+    Divider,
     Pin(usize),
     Direction(usize),
     Release,
+    Pulse,
     Words,
     Budget,
 }
@@ -30,45 +37,7 @@ pub struct Edge {
 }
 
 /// How many there are.
-pub const COUNT: u64 = 37_019;
-
-/// The edges, each of which the part must meet.
-pub const ALL: &[&str] = &[
-    "cells of 15",
-    "cells of 16",
-    "cells with one fixed bit",
-    "PC 1,023",
-    "PC 1,024",
-    "5 levels",
-    "6 levels",
-    "255 levels",
-    "open places with 1,023",
-    "open places with 1,024",
-    "closed places with 0",
-    "closed places with 1",
-    "skip 0",
-    "skip 1",
-    "skip 2",
-    "skip 255",
-    "standby 0",
-    "standby 1",
-    "standby 2",
-    "standby 255",
-    "pins 15",
-    "pins 16",
-    "directions 15",
-    "directions 16",
-    "release 1",
-    "release 2",
-    "ROM of 0",
-    "ROM of 1",
-    "ROM of 1,024",
-    "ROM of 1,025",
-    "budget 0",
-    "budget 65,535",
-    "budget 65,536",
-    "budget 2^32 - 1",
-];
+pub const COUNT: u64 = 39_835;
 
 /// The bits of a cell that are not always 0: document 01, "The machine's
 /// record".
@@ -82,12 +51,25 @@ pub fn free_bits(address: usize) -> u32 {
     }
 }
 
+/// The bits that a control register keeps: 11H without TMRES, 12H, 24H, and
+/// 32H to 35H (document 02, E4; source 000, fig. 13-2, 13-7, 12-2 and 12-3).
+pub fn kept_bits(place: usize) -> u32 {
+    match place {
+        0 => 0b1011,
+        1 | 2 => 0b0001,
+        3 => 0b0011,
+        _ => 0b1111,
+    }
+}
+
 /// Every place with its values.
 pub fn edges() -> &'static [Edge] {
     static EDGES: OnceLock<Vec<Edge>> = OnceLock::new();
     EDGES.get_or_init(|| {
         let mut places = vec![Pc, Levels, Skip, Standby, Release, Words, Budget];
+        places.extend([Modulo, Counter, Divider, Pulse]);
         places.extend((0..128).map(Cell));
+        places.extend((0..7).map(Register));
         for at in 0..5 {
             places.extend([Pin(at), Direction(at)]);
             places.extend((0..=5).map(|open| Stack(at, open)));
@@ -110,8 +92,8 @@ impl Place {
         }
     }
 
-    /// Is a value in range? Document 01, "Refusal numbers"; of the marks, 0 and
-    /// 1 are.
+    /// Is a value in range? Document 01, "Refusal numbers", and document 02, E4;
+    /// of the marks, skip 0 and 1 are, and standby 0 to 2.
     fn takes(self, value: u32) -> bool {
         match self {
             Cell(address) => value & !free_bits(address) == 0,
@@ -119,7 +101,11 @@ impl Place {
             Levels => value <= 5,
             Stack(place, open) if place < usize::from(open) => value <= 1_023,
             Stack(..) => value == 0,
-            Skip | Standby | Release => value <= 1,
+            Skip | Release | Pulse => value <= 1,
+            Standby => value <= 2,
+            Register(place) => value & !kept_bits(place) == 0,
+            Modulo | Counter => true,
+            Divider => value <= 127,
             Pin(_) | Direction(_) => value <= 15,
             Words => (1..=1_024).contains(&value),
             Budget => value <= 65_535,
@@ -128,47 +114,6 @@ impl Place {
 }
 
 impl Edge {
-    pub fn name(self) -> Option<&'static str> {
-        let name = match (self.place, self.value) {
-            (Cell(_), 15) if self.in_range() => "cells of 15",
-            (Cell(_), 16) => "cells of 16",
-            (Cell(_), 1 | 2 | 4 | 8) if !self.in_range() => "cells with one fixed bit",
-            (Pc, 1_023) => "PC 1,023",
-            (Pc, 1_024) => "PC 1,024",
-            (Levels, 5) => "5 levels",
-            (Levels, 6) => "6 levels",
-            (Levels, 255) => "255 levels",
-            (Stack(at, open), 1_023) if at < usize::from(open) => "open places with 1,023",
-            (Stack(at, open), 1_024) if at < usize::from(open) => "open places with 1,024",
-            (Stack(at, open), 0) if at >= usize::from(open) => "closed places with 0",
-            (Stack(at, open), 1) if at >= usize::from(open) => "closed places with 1",
-            (Skip, 0) => "skip 0",
-            (Skip, 1) => "skip 1",
-            (Skip, 2) => "skip 2",
-            (Skip, 255) => "skip 255",
-            (Standby, 0) => "standby 0",
-            (Standby, 1) => "standby 1",
-            (Standby, 2) => "standby 2",
-            (Standby, 255) => "standby 255",
-            (Pin(_), 15) => "pins 15",
-            (Pin(_), 16) => "pins 16",
-            (Direction(_), 15) => "directions 15",
-            (Direction(_), 16) => "directions 16",
-            (Release, 1) => "release 1",
-            (Release, 2) => "release 2",
-            (Words, 0) => "ROM of 0",
-            (Words, 1) => "ROM of 1",
-            (Words, 1_024) => "ROM of 1,024",
-            (Words, 1_025) => "ROM of 1,025",
-            (Budget, 0) => "budget 0",
-            (Budget, 65_535) => "budget 65,535",
-            (Budget, 65_536) => "budget 65,536",
-            (Budget, u32::MAX) => "budget 2^32 - 1",
-            _ => return None,
-        };
-        Some(name)
-    }
-
     pub fn in_range(self) -> bool {
         self.place.takes(self.value)
     }

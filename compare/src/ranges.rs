@@ -5,8 +5,10 @@ use std::fmt::Debug;
 use std::sync::OnceLock;
 
 use reference::machine::WRITABLE;
-use reference::{Input, Machine};
+use reference::Machine;
 
+use crate::board::Board;
+use crate::clock::KEPT;
 use crate::host::RunReply;
 use crate::pair::{self, Finding};
 use crate::random::Random;
@@ -28,9 +30,13 @@ enum Kind {
     Levels,
     Skip,
     Standby,
+    /// A bit of a control register that is above the nibble or fixed.
+    Register(usize, u8),
+    Divider,
     Pin(usize),
     Direction(usize),
     Release,
+    Pulse,
     EmptyRom,
     LongRom,
     Budget,
@@ -43,7 +49,7 @@ const REFUSED: RunReply = RunReply { steps: 0, cycles: 0, number: 1 };
 struct Call {
     rom: Vec<u16>,
     machine: Machine,
-    input: Input,
+    board: Board,
     budget: u32,
 }
 
@@ -54,9 +60,9 @@ pub fn one_fault(random: &mut Random, index: u64, tally: &mut Tally) -> Result<(
     let words = 1 + random.below(16);
     let rom: Vec<u16> = (0..words).map(|_| words::any(random)).collect();
     let machine = records::machine(random, rom.len());
-    let input = records::input(random);
+    let board = records::board(random);
     let budget = if random.once_in(8) { 0 } else { random.below(65_536) as u32 };
-    let mut call = Call { rom, machine, input, budget };
+    let mut call = Call { rom, machine, board, budget };
     kind.put_into(&mut call, random);
     tally.see(kind.name());
     if call.budget == 0 {
@@ -69,13 +75,13 @@ impl Call {
     /// The run, and the step too where the budget is not the fault.
     fn is_refused(&self, kind: Kind, tally: &mut Tally) -> Result<(), Finding> {
         let mut left = self.machine.clone();
-        let report = pair::run(&self.rom, &mut left, &self.input, self.budget)?;
+        let report = pair::run(&self.rom, &mut left, &self.board, self.budget)?;
         tally.answer(report.number);
         self.stays(kind, report == REFUSED, &report, &left)?;
         if matches!(kind, Kind::Budget) {
             return Ok(());
         }
-        let number = pair::step(&self.rom, &mut left, &self.input)?;
+        let number = pair::step(&self.rom, &mut left, &self.board)?;
         tally.answer(number);
         self.stays(kind, number == 1, &number, &left)
     }
@@ -95,7 +101,7 @@ impl Call {
         let call = format!("a call {}, budget {}", kind.name(), self.budget);
         Err(Finding(format!(
             "{}both answer {answer:?} and leave:\n{}first difference to before: {:?}\n",
-            pair::case(&call, &self.rom, &self.machine, &self.input),
+            pair::case(&call, &self.rom, &self.machine, &self.board),
             pair::show(left),
             pair::difference(left, &self.machine)
         )))
@@ -110,7 +116,9 @@ fn kinds() -> &'static [Kind] {
             Kind::Levels,
             Kind::Skip,
             Kind::Standby,
+            Kind::Divider,
             Kind::Release,
+            Kind::Pulse,
             Kind::EmptyRom,
             Kind::LongRom,
             Kind::Budget,
@@ -118,6 +126,10 @@ fn kinds() -> &'static [Kind] {
         for (cell, kept) in WRITABLE.iter().enumerate() {
             let barred = (0..8).filter(|bit| kept >> bit & 1 == 0);
             kinds.extend(barred.map(|bit| Kind::Cell(cell, bit)));
+        }
+        for (place, kept) in KEPT.iter().enumerate() {
+            let barred = (0..8).filter(|bit| kept >> bit & 1 == 0);
+            kinds.extend(barred.map(|bit| Kind::Register(place, bit)));
         }
         kinds.extend((10..16).map(Kind::Pc));
         for place in 0..5 {
@@ -139,10 +151,15 @@ impl Kind {
             Kind::Closed(..) => "with a closed level not 0",
             Kind::Levels => "with more than five open levels",
             Kind::Skip => "with a skip mark above 1",
-            Kind::Standby => "with a standby mark above 1",
+            Kind::Standby => "with a standby mark above 2",
+            Kind::Register(0, 2) => "with TMRES set",
+            Kind::Register(_, 0..=3) => "with a fixed bit of a register set",
+            Kind::Register(..) => "with a register above 15",
+            Kind::Divider => "with a divider above 127",
             Kind::Pin(_) => "with a pin nibble above 15",
             Kind::Direction(_) => "with a direction nibble above 15",
             Kind::Release => "with a release above 1",
+            Kind::Pulse => "with a pulse above 1",
             Kind::EmptyRom => "with a ROM of no words",
             Kind::LongRom => "with a ROM of more than 1,024 words",
             Kind::Budget => "with a budget above 65,535",
@@ -150,7 +167,7 @@ impl Kind {
     }
 
     fn put_into(self, call: &mut Call, random: &mut Random) {
-        let Call { rom, machine, input, budget } = call;
+        let Call { rom, machine, board: Board { input, pulse }, budget } = call;
         match self {
             Kind::Cell(cell, bit) => machine.cells[cell] |= 1 << bit,
             Kind::Pc(bit) => machine.pc |= 1 << bit,
@@ -165,10 +182,13 @@ impl Kind {
             }
             Kind::Levels => machine.levels = 6 + random.byte(250),
             Kind::Skip => machine.skip = 2 + random.byte(254),
-            Kind::Standby => machine.standby = 2 + random.byte(254),
+            Kind::Standby => machine.standby = 3 + random.byte(253),
+            Kind::Register(place, bit) => machine.peripherals.registers[place] |= 1 << bit,
+            Kind::Divider => machine.peripherals.divider = 128 + random.byte(128),
             Kind::Pin(port) => input.pins[port] = 16 + random.byte(240),
             Kind::Direction(port) => input.directions[port] = 16 + random.byte(240),
             Kind::Release => input.release = 2 + random.byte(254),
+            Kind::Pulse => *pulse = 2 + random.byte(254),
             Kind::EmptyRom => rom.clear(),
             Kind::LongRom => {
                 rom.resize(random.pick(&[1025, 1026, 2048, 65_536, 65_537, 66_000]), words::NOP);

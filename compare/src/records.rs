@@ -1,9 +1,11 @@
-//! Random machines and inputs in range.
+//! Random machines and inputs in range, and inputs out of it.
 
 use reference::machine::{LAST_ADDRESS, WRITABLE};
 use reference::{Input, Machine};
 
+use crate::board::Board;
 use crate::random::Random;
+use crate::timers;
 
 /// A random machine for a ROM of so many words.
 pub fn machine(random: &mut Random, words: usize) -> Machine {
@@ -62,7 +64,21 @@ pub fn input(random: &mut Random) -> Input {
     input
 }
 
+/// A random input record with a random pulse bit.
+pub fn board(random: &mut Random) -> Board {
+    Board { input: input(random), pulse: random.byte(2) }
+}
+
 /// Puts one value out of range.
+pub fn spoil_board(random: &mut Random, board: &mut Board) {
+    if random.once_in(4) {
+        board.pulse = if random.once_in(2) { 2 } else { 2 + random.byte(254) };
+    } else {
+        spoil_input(random, &mut board.input);
+    }
+}
+
+/// Puts one value of an input record out of range.
 pub fn spoil_input(random: &mut Random, input: &mut Input) {
     let port = random.below(5) as usize;
     let nibble = if random.once_in(2) { 16 } else { 16 + random.byte(240) };
@@ -105,14 +121,15 @@ fn weigh(random: &mut Random, machine: &mut Machine) {
     }
 }
 
-/// AR, PC, stack and marks.
+/// AR, PC, stack, marks, registers and timer.
 fn control(random: &mut Random, machine: &mut Machine, words: usize) {
     set_ar(machine, address(random, words));
     machine.pc = if random.once_in(32) { address(random, words) } else { inside(random, words) };
     let levels = random.byte(6);
     open(random, machine, levels);
     machine.skip = u8::from(random.once_in(8));
-    machine.standby = u8::from(random.once_in(8));
+    machine.standby = if random.once_in(8) { 1 + random.byte(2) } else { 0 };
+    machine.peripherals = timers::any(random);
 }
 
 /// So many open levels, each with an address.

@@ -3,6 +3,7 @@
 use reference::verify::NEVER;
 
 use crate::random::Random;
+use crate::transfers;
 use crate::words;
 
 #[derive(Clone)]
@@ -81,13 +82,14 @@ impl Plan<'_> {
     fn chosen(&self, random: &mut Random, at: usize, level: u8) -> Option<u16> {
         let next = self.follows(at, 1, level);
         let both = next && self.follows(at, 2, level);
-        match random.below(40) {
+        match random.below(44) {
             0..=17 => next.then(|| words::plain(random)),
             18..=25 => both.then(|| words::skip(random)),
             26..=33 => self.call(random, next, both, level),
             34..=35 => (next && self.depths.len() == 1024 && level <= 4).then_some(words::MOVT),
             36 => next.then(|| words::halt(random)),
             37 => Some(self.branch(random, level)),
+            38..=41 => next.then(|| transfers::allowed(random)),
             _ => (level > 0).then(|| self.back(random, level)),
         }
     }

@@ -16,12 +16,15 @@ use crate::words;
 /// Boundary states of each word: four of each of the 16 settings of IXE, MPE,
 /// BCD and CMP.
 const STATES: u8 = 64;
+/// From word to word. It is odd, so that each comes once.
+const STRIDE: u16 = 0x9E3B;
 /// From here on the states are corners.
 const CORNERS: u8 = 48;
 
-/// The word `index` (its low 16 bits) at boundary states.
+/// One word at boundary states. 65,536 cases have every word once, and fewer
+/// have words of all kinds.
 pub fn every_word(random: &mut Random, index: u64, tally: &mut Tally) -> Result<(), Finding> {
-    let word = index as u16;
+    let word = (index as u16).wrapping_mul(STRIDE);
     for state in 0..CORNERS {
         let words = length(random);
         let mut machine = records::boundary(random, words, state);
@@ -57,15 +60,13 @@ fn one_step(
     before: Machine,
     tally: &mut Tally,
 ) -> Result<(), Finding> {
-    let mut rom = *table();
-    rom[usize::from(before.pc)] = word;
-    let rom = &rom[..words];
-    let input = records::input(random);
+    let rom = &with_word(word, before.pc)[..words];
+    let board = records::board(random);
     let mut machine = before.clone();
-    let number = pair::step(rom, &mut machine, &input)?;
+    let number = pair::step(rom, &mut machine, &board)?;
     tally.answer(number);
     events::count(rom, &before, number, tally);
-    counts::run_of_one(rom, &before, &input, number, &machine)
+    counts::run_of_one(rom, &before, &board, number, &machine)
 }
 
 /// A run on a short ROM of random words, and a step after it.
@@ -78,15 +79,22 @@ pub fn random_run(random: &mut Random, _: u64, tally: &mut Tally) -> Result<(), 
         1..=15 => random.below(2) as u32,
         _ => random.below(40) as u32,
     };
-    let input = records::input(random);
-    let report = pair::run(&rom, &mut machine, &input, budget)?;
+    let board = records::board(random);
+    let report = pair::run(&rom, &mut machine, &board, budget)?;
     tally.answer(report.number);
     tally.see(if report.steps == 0 { "runs of no step" } else { "runs of some steps" });
-    tally.answer(pair::step(&rom, &mut machine, &records::input(random))?);
+    tally.answer(pair::step(&rom, &mut machine, &records::board(random))?);
     Ok(())
 }
 
-/// ROM words for MOVT to find, the same for every case.
+/// ROM words for MOVT to find, with `word` at an address.
+pub fn with_word(word: u16, address: u16) -> [u16; 1024] {
+    let mut rom = *table();
+    rom[usize::from(address)] = word;
+    rom
+}
+
+/// They are the same for every case.
 fn table() -> &'static [u16; 1024] {
     static TABLE: OnceLock<[u16; 1024]> = OnceLock::new();
     TABLE.get_or_init(|| {
@@ -96,7 +104,7 @@ fn table() -> &'static [u16; 1024] {
 }
 
 /// The length of a ROM: the longest, short ones, and all others.
-fn length(random: &mut Random) -> usize {
+pub fn length(random: &mut Random) -> usize {
     let words = match random.below(4) {
         0 => 1024,
         1 => 1 + random.below(8),

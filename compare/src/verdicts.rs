@@ -6,6 +6,7 @@ use crate::pair::{self, Finding};
 use crate::random::Random;
 use crate::roms::{passing, Passing};
 use crate::tally::Tally;
+use crate::transfers;
 use crate::words;
 
 /// A passing ROM of each length in turn, then damaged forms of it, then a
@@ -15,6 +16,9 @@ pub fn checks(random: &mut Random, index: u64, tally: &mut Tally) -> Result<(), 
     let case = passing(random, words);
     passes(&case)?;
     tally.answer(pair::DONE);
+    if reached(&case).any(|word| transfers::taken(word).is_some()) {
+        tally.see("ROMs that pass with the four");
+    }
     for changes in [1, 1, 1, 2, 4] {
         let mut damaged = case.clone();
         (0..changes).for_each(|_| damage(random, &mut damaged));
@@ -55,6 +59,15 @@ fn too_long(case: &Passing, tally: &mut Tally) -> Result<(), Finding> {
 fn judge(case: &Passing, tally: &mut Tally) -> Result<(), Finding> {
     let checked = pair::verify(&case.rom, &case.depths)?;
     tally.answer(checked.number);
+    if checked.rule == 3 && case.rom.get(usize::from(checked.word)).is_some_and(|&w| meets_30(w)) {
+        tally.see("by rule 3 for refusal 30");
+    }
+    if checked.number == pair::DONE && reached(case).any(meets_30) {
+        return Err(Finding(format!(
+            "both pass a reached word of refusal 30\nROM: {:04X?}\nsheet: {:?}\n",
+            case.rom, case.depths
+        )));
+    }
     tally.see(match checked.rule {
         1 => "by rule 1",
         2 => "by rule 2",
@@ -65,6 +78,17 @@ fn judge(case: &Passing, tally: &mut Tally) -> Result<(), Finding> {
         _ => return Ok(()),
     });
     Ok(())
+}
+
+/// The reached words.
+fn reached(case: &Passing) -> impl Iterator<Item = u16> + '_ {
+    let words = case.rom.iter().zip(&case.depths);
+    words.filter(|(_, &depth)| depth != NEVER).map(|(&word, _)| word)
+}
+
+/// Is this PEEK, POKE, GET or PUT with what is not there?
+fn meets_30(word: u16) -> bool {
+    transfers::taken(word).is_some_and(|(kind, address)| transfers::missing(kind, address))
 }
 
 /// One change.

@@ -1,6 +1,7 @@
 //! Random words.
 
 use crate::random::Random;
+use crate::transfers;
 
 /// The group's opcode, and those of the other instructions.
 const GROUP: u16 = 0x07;
@@ -28,13 +29,14 @@ const HALT: u16 = 0x3BF0;
 
 /// Any word, mostly an instruction.
 pub fn any(random: &mut Random) -> u16 {
-    match random.below(16) {
+    match random.below(17) {
         0 => random.bits() as u16,
         1..=3 => group(random),
+        16 => transfers::any(random),
         4 => far(random, BR),
         5 => far(random, CALL),
         6..=8 => skip(random),
-        9 => random.pick(&[MOVT, INC_IX, INC_AR, RET, RETSK, NOP]),
+        9 => random.pick(&[MOVT, INC_IX, INC_AR, RET, RETSK, NOP, RORC | 0xF]),
         _ => data(random),
     }
 }

@@ -98,12 +98,26 @@ impl Machine {
                 self.skip_if(!fault(fault::RETSK_NO_SKIP));
                 return Ok(address);
             }
-            Halt { .. } | Stop { .. } => self.standby = 1,
+            Peek { rf } => self.peek(input, rf)?,
+            Poke { rf } => self.poke(rf)?,
+            Get { p } => self.get(p)?,
+            Put { p } => self.put(p)?,
+            Halt { .. } => self.standby = Self::HALT,
+            Stop { .. } => self.stop(),
             Nop => {}
-            // EI, DI, RETI, PEEK, POKE, GET, PUT.
+            // EI, DI, RETI.
             _ => return Err(4),
         }
         Ok(next)
+    }
+
+    /// STOP leaves the counter, which the chip resets (000, table 15-1):
+    /// document 01 says that it moves PC on and sets the mark.
+    fn stop(&mut self) {
+        self.standby = Self::STOP;
+        if fault(fault::STOP_CLEARS_COUNTER) {
+            self.peripherals.counter = 0;
+        }
     }
 
     /// The operands of an instruction on r,m.

@@ -30,6 +30,12 @@ pub(crate) const fn fault(_: u32) -> bool {
     false
 }
 
+/// Is some fault active?
+#[inline(always)]
+pub(crate) fn any() -> bool {
+    cfg!(feature = "faults") && !fault(0)
+}
+
 /// IX is ORed into r.
 pub const IX_IN_R: u32 = 1;
 /// IX is ORed into the column of @r.
@@ -98,8 +104,8 @@ pub const SKIPS_EXCHANGED: u32 = 32;
 pub const SIX_LEVELS: u32 = 33;
 /// A skip mark of 2 is in range.
 pub const SKIP_OF_TWO: u32 = 34;
-/// A standby mark of 2 is in range.
-pub const STANDBY_OF_TWO: u32 = 35;
+/// A standby mark of 3 is in range.
+pub const STANDBY_OF_THREE: u32 = 35;
 /// A PC of 1,024 is in range.
 pub const PC_PAST_LAST: u32 = 36;
 /// A release of 2 is in range.
@@ -128,6 +134,76 @@ pub const CYCLES_OF_BUDGET: u32 = 47;
 pub const CYCLES_OF_16_BITS: u32 = 48;
 /// `END` has the cycles before the steps.
 pub const END_EXCHANGED: u32 = 49;
+/// A step's pulse comes before its writes and reads.
+pub const PULSE_BEFORE_WRITES: u32 = 50;
+/// TMRES is stored in 11H.
+pub const TMRES_STORED: u32 = 51;
+/// TMRES clears the divider too.
+pub const TMRES_CLEARS_DIVIDER: u32 = 52;
+/// TMRES clears the counter only if TMEN is written as 1.
+pub const TMRES_ONLY_RUNNING: u32 = 53;
+/// The counter is reset by the pulse that brings it to the modulo register.
+pub const MATCH_AT_EQUALITY: u32 = 54;
+/// A counter above the modulo register is reset as well.
+pub const MATCH_ABOVE: u32 = 55;
+/// The counter stays at the modulo register.
+pub const COUNTER_STUCK: u32 = 56;
+/// TMCK 00 is fx/32 and 01 fx/256.
+pub const CLOCKS_EXCHANGED: u32 = 57;
+/// TMEN 0 stops the divider.
+pub const DIVIDER_STOPPED: u32 = 58;
+/// A change of the clock clears the divider.
+pub const CLOCK_CHANGE_DIVIDES: u32 = 59;
+/// MOVT's second cycle is lost to the divider.
+pub const MOVT_DIVIDES_ONE: u32 = 60;
+/// MOVT's two cycles count two pulses of the INT clock.
+pub const MOVT_TWO_PULSES: u32 = 61;
+/// The pulse bit is counted with every clock.
+pub const PULSE_WITH_ANY_CLOCK: u32 = 62;
+/// 11H is 0000B at reset, as source 000 has it in fig. 19-2.
+pub const TIMER_OFF_AT_RESET: u32 = 63;
+/// PUT to the modulo register clears the counter.
+pub const PUT_RESTARTS: u32 = 64;
+/// PUT to the counter is allowed.
+pub const PUT_COUNTER: u32 = 65;
+/// GET of the modulo register is allowed.
+pub const GET_MODULO: u32 = 66;
+/// GET clears 0CH and 0DH.
+pub const GET_WHOLE_BUFFER: u32 = 67;
+/// IX is ORed into rf.
+pub const IX_IN_RF: u32 = 68;
+/// PEEK of a port reads its cell, past the port rule.
+pub const PEEK_PAST_PORT: u32 = 69;
+/// 24H gives the directions of P0B bit by bit.
+pub const GROUP_BY_BITS: u32 = 70;
+/// TMOSEL does not make P0D3 an output.
+pub const TMOSEL_IGNORED: u32 = 71;
+/// Directions come from the input record.
+pub const DIRECTIONS_OF_INPUT: u32 = 72;
+/// A skipped word meets refusal 30.
+pub const SKIPPED_MEETS_30: u32 = 73;
+/// A word that is refused moves the timer.
+pub const REFUSED_MOVES_TIMER: u32 = 74;
+/// HALT's standing step counts as a step and a cycle.
+pub const HALT_COUNTED: u32 = 75;
+/// A run that begins in HALT stands for its whole budget.
+pub const HALT_FOR_BUDGET: u32 = 76;
+/// A run that begins in HALT moves the timer at budget 0 too.
+pub const BUDGET_0_STANDS: u32 = 77;
+/// STOP's standing step moves the timer.
+pub const STOP_MOVES_TIMER: u32 = 78;
+/// STOP clears the counter.
+pub const STOP_CLEARS_COUNTER: u32 = 79;
+/// 11H with TMRES set is in range.
+pub const TMRES_IN_RANGE: u32 = 80;
+/// A divider of 128 is in range.
+pub const DIVIDER_OF_128: u32 = 81;
+/// A pulse bit of 2 is in range.
+pub const PULSE_OF_TWO: u32 = 82;
+/// The check still bans PEEK, POKE, GET and PUT.
+pub const CHECK_BANS_FOUR: u32 = 83;
+/// The check passes PEEK, POKE, GET and PUT whatever they name.
+pub const CHECK_WITHOUT_30: u32 = 84;
 
 /// The number of the last fault.
-pub const LAST: u32 = END_EXCHANGED;
+pub const LAST: u32 = CHECK_WITHOUT_30;

@@ -213,7 +213,7 @@ pub(crate) fn decode_group(word: u16) -> Option<Instruction> {
 
 /// The instructions of refusal 4.
 pub(crate) fn unsupported(instruction: Instruction) -> bool {
-    matches!(instruction, Ei | Di | Reti | Peek { .. } | Poke { .. } | Get { .. } | Put { .. })
+    matches!(instruction, Ei | Di | Reti)
 }
 
 /// The word of an instruction; refusal 10 for an operand too large for its

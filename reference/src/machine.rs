@@ -1,6 +1,8 @@
-//! The machine's state and its inputs (document 01, "The machine's record").
+//! The machine's state and its inputs (document 01, "The machine's record";
+//! document 02, E4).
 
 use crate::fault::{self, fault};
+use crate::peripherals::Peripherals;
 
 /// The machine's state. Document 01 calls it the record.
 ///
@@ -18,8 +20,11 @@ pub struct Machine {
     pub levels: u8,
     /// 1: the next word is skipped ("skip pending").
     pub skip: u8,
-    /// 1: the machine stands by after HALT or STOP ("standing").
+    /// 0, or the standby that the machine is in, HALT's or STOP's
+    /// ("standing").
     pub standby: u8,
+    /// Control registers and timer.
+    pub peripherals: Peripherals,
 }
 
 /// What the board gives to a step: document 01's input record.
@@ -27,7 +32,8 @@ pub struct Machine {
 pub struct Input {
     /// Pin nibbles, P0A to P0E.
     pub pins: [u8; 5],
-    /// Direction nibbles in that order: 0 reads the pin, 1 the stored bit.
+    /// Direction nibbles in that order. Document 02, E4: their range is tested
+    /// and they are not read; directions come from the control registers.
     pub directions: [u8; 5],
     /// 1 releases a machine that stands by.
     pub release: u8,
@@ -37,6 +43,8 @@ pub struct Input {
 impl Machine {
     /// First cell of the data buffer, DBF3.
     pub const DBF3: u8 = 0x0C;
+    pub const DBF1: u8 = 0x0E;
+    pub const DBF0: u8 = 0x0F;
     pub const P0E: u8 = 0x6F;
     pub const P0A: u8 = 0x70;
     pub const P0D: u8 = 0x73;
@@ -65,9 +73,22 @@ impl Machine {
     /// Flag of IXH.
     pub const MPE: u8 = 8;
 
-    /// All zeros and no mark.
+    /// Standby marks.
+    pub const HALT: u8 = 1;
+    pub const STOP: u8 = 2;
+
+    /// All zeros and no mark; registers and timer as source 000 says.
     pub fn reset() -> Machine {
-        Machine { cells: [0; 128], pc: 0, stack: [0; 5], levels: 0, skip: 0, standby: 0 }
+        let peripherals = Peripherals::reset();
+        Machine {
+            cells: [0; 128],
+            pc: 0,
+            stack: [0; 5],
+            levels: 0,
+            skip: 0,
+            standby: 0,
+            peripherals,
+        }
     }
 
     /// Is the state in range? If not, refusal 1.
@@ -79,7 +100,8 @@ impl Machine {
             && self.levels <= 5 + u8::from(fault(fault::SIX_LEVELS))
             && self.stack_in_range()
             && self.skip <= 1 + u8::from(fault(fault::SKIP_OF_TWO))
-            && self.standby <= 1 + u8::from(fault(fault::STANDBY_OF_TWO))
+            && self.standby <= Self::STOP + u8::from(fault(fault::STANDBY_OF_THREE))
+            && self.peripherals.in_range()
     }
 
     /// Open places hold addresses, closed places hold 0.

@@ -25,7 +25,10 @@ impl Machine {
 
     fn load_port(&self, input: &Input, address: u8) -> u8 {
         let port = usize::from(if address == Self::P0E { 4 } else { address - Self::P0A });
-        let mut latch = input.directions[port];
+        let mut latch = self.peripherals.directions(port);
+        if fault(fault::DIRECTIONS_OF_INPUT) {
+            latch = input.directions[port];
+        }
         if fault(fault::DIRECTION_INVERTED) {
             latch = !latch & 0xF;
         }

@@ -1,11 +1,14 @@
 //! A single step and a counted run (document 01, "Results" and "Refusal
-//! numbers"; source 000, chapters 3, 6 and 18).
+//! numbers"; document 02, E4; source 000, chapters 3, 6 and 18).
 
-use crate::count::Count;
+use crate::count::{cycles, Count};
 use crate::execute::following;
 use crate::fault::{self, fault};
 use crate::isa::{decode, unsupported};
 use crate::machine::{rom_in_range, Input, Machine, ROM_WORDS};
+use crate::pace::Pace;
+use crate::peripherals::Peripherals;
+use crate::register_file::missing;
 
 /// What a step answers.
 #[derive(Clone, Copy, Debug, PartialEq, Eq)]
@@ -30,9 +33,9 @@ pub struct Report {
 /// The largest budget of a run.
 pub const MAX_BUDGET: u32 = 65_535;
 
-/// One step.
-pub fn step(rom: &[u16], machine: &mut Machine, input: &Input) -> Answer {
-    counted_step(rom, machine, input, &mut Count::default())
+/// One step. `pulse` is the pulse bit of the INT clock.
+pub fn step(rom: &[u16], machine: &mut Machine, input: &Input, pulse: u8) -> Answer {
+    counted_step(rom, machine, input, pulse, &mut Count::default())
 }
 
 /// One step, added to a count.
@@ -41,19 +44,23 @@ pub(crate) fn counted_step(
     rom: &[u16],
     machine: &mut Machine,
     input: &Input,
+    pulse: u8,
     count: &mut Count,
 ) -> Answer {
-    if !all_in_range(rom, machine, input) {
+    if !all_in_range(rom, machine, input, pulse) {
         return Answer::Refused(1);
     }
     if stays_standing(machine, input) {
-        count.stood();
+        stand(machine, pulse, count);
         return Answer::Standby;
     }
     let stood = machine.standby;
     machine.standby = 0;
-    match advance(rom, machine, input, count) {
-        Ok(()) => Answer::Done,
+    match advance(rom, machine, input, pulse, count) {
+        Ok(cycles) => {
+            machine.peripherals.tick_after_writes(cycles, pulse);
+            Answer::Done
+        }
         Err(refusal) => {
             put_back(machine, stood);
             Answer::Refused(refusal)
@@ -61,35 +68,43 @@ pub(crate) fn counted_step(
     }
 }
 
-/// At most `budget` steps with one input. The ranges are tested once: a step
-/// keeps the machine in range.
-pub fn run(rom: &[u16], machine: &mut Machine, input: &Input, budget: u32) -> Report {
+/// At most `budget` steps with one input, and a pulse in each if `pulse` is 1.
+/// The ranges are tested once: a step keeps the machine in range.
+pub fn run(rom: &[u16], machine: &mut Machine, input: &Input, pulse: u8, budget: u32) -> Report {
     let most = MAX_BUDGET + u32::from(fault(fault::BUDGET_ONE_MORE));
     let mut count = Count::default();
-    if budget > most || !all_in_range(rom, machine, input) {
+    if budget > most || !all_in_range(rom, machine, input, pulse) {
         return Report { count, refusal: 1 };
     }
     if budget == 0 {
+        if fault(fault::BUDGET_0_STANDS) && stays_standing(machine, input) {
+            stand(machine, pulse, &mut count);
+        }
         return Report { count, refusal: 0 };
     }
     if stays_standing(machine, input) {
-        count.stood();
-        count.steps += u32::from(fault(fault::STANDBY_COUNTED));
+        stand_in_run(machine, pulse, budget, &mut count);
         return Report { count, refusal: 0 };
     }
     let stood = machine.standby;
     machine.standby = 0;
+    let mut pace = Pace::new(&machine.peripherals, pulse);
     while spent(&count) < budget && machine.standby == 0 {
-        if let Err(refusal) = advance(rom, machine, input, &mut count) {
-            if count.steps == 0 {
-                put_back(machine, stood);
+        match advance(rom, machine, input, pulse, &mut count) {
+            Ok(cycles) => pace.step(&mut machine.peripherals, cycles, pulse),
+            Err(refusal) => {
+                pace.settle(&mut machine.peripherals);
+                if count.steps == 0 {
+                    put_back(machine, stood);
+                }
+                if fault(fault::REFUSED_RUN_NO_CYCLES) {
+                    count.cycles = 0;
+                }
+                return Report { count, refusal };
             }
-            if fault(fault::REFUSED_RUN_NO_CYCLES) {
-                count.cycles = 0;
-            }
-            return Report { count, refusal };
         }
     }
+    pace.settle(&mut machine.peripherals);
     if fault(fault::CYCLES_OF_BUDGET) {
         count.cycles += budget - count.steps;
     }
@@ -106,14 +121,35 @@ fn spent(count: &Count) -> u32 {
 }
 
 /// Refusal 1 for a step or run, but for the budget.
-fn all_in_range(rom: &[u16], machine: &Machine, input: &Input) -> bool {
+fn all_in_range(rom: &[u16], machine: &Machine, input: &Input, pulse: u8) -> bool {
     let one_more = fault(fault::ROM_ONE_MORE) && rom.len() == ROM_WORDS + 1;
-    machine.in_range() && input.in_range() && (rom_in_range(rom) || one_more)
+    machine.in_range()
+        && input.in_range()
+        && pulse <= 1 + u8::from(fault(fault::PULSE_OF_TWO))
+        && (rom_in_range(rom) || one_more)
 }
 
 /// A machine in standby moves on only with release 1.
 fn stays_standing(machine: &Machine, input: &Input) -> bool {
-    machine.standby == 1 && input.release == 0
+    machine.standby != 0 && input.release == 0
+}
+
+/// A step that stays in standby: HALT's moves the timer by one cycle, STOP's
+/// changes nothing (document 02, E4).
+fn stand(machine: &mut Machine, pulse: u8, count: &mut Count) {
+    if machine.standby == Machine::HALT || fault(fault::STOP_MOVES_TIMER) {
+        machine.peripherals.tick(1, pulse);
+    }
+    count.stood(machine.standby);
+}
+
+/// A run that begins in standby ends after one such step.
+fn stand_in_run(machine: &mut Machine, pulse: u8, budget: u32, count: &mut Count) {
+    let steps = if fault(fault::HALT_FOR_BUDGET) { budget } else { 1 };
+    for _ in 0..steps {
+        stand(machine, pulse, count);
+    }
+    count.steps += u32::from(fault(fault::STANDBY_COUNTED));
 }
 
 /// A refused step leaves the standby mark as it came.
@@ -123,20 +159,54 @@ fn put_back(machine: &mut Machine, stood: u8) {
     }
 }
 
-/// One step of a machine in range and not in standby, added to a count.
+/// One step of a machine in range and not in standby, added to a count, but for
+/// what it does to the timer after its writes. Answers its cycles.
 #[inline(always)]
-fn advance(rom: &[u16], machine: &mut Machine, input: &Input, count: &mut Count) -> Result<(), u8> {
+fn advance(
+    rom: &[u16],
+    machine: &mut Machine,
+    input: &Input,
+    pulse: u8,
+    count: &mut Count,
+) -> Result<u8, u8> {
     let Some(&word) = rom.get(usize::from(machine.pc)) else {
         return Err(2);
     };
-    let skipped = machine.skip != 0;
-    machine.pc = if skipped {
-        skip_word(rom, machine, word)?
+    let cycles = cycles(word, machine.skip != 0);
+    let came = machine.peripherals;
+    machine.peripherals.tick_before_writes(cycles, pulse);
+    match work(rom, machine, input, word) {
+        Ok(next) => machine.pc = next,
+        Err(refusal) => {
+            refused_word(machine, came, word, pulse, count);
+            return Err(refusal);
+        }
+    }
+    count.add(cycles);
+    Ok(cycles)
+}
+
+/// What the word does, and the PC after it.
+#[inline(always)]
+fn work(rom: &[u16], machine: &mut Machine, input: &Input, word: u16) -> Result<u16, u8> {
+    if machine.skip != 0 {
+        skip_word(rom, machine, word)
     } else {
-        machine.execute(rom, input, word).inspect_err(|_| count.refused(word))?
-    };
-    count.add(word, skipped);
-    Ok(())
+        machine.execute(rom, input, word)
+    }
+}
+
+/// A word that is refused leaves the timer as it came, and counts nothing.
+/// Only deliberate faults have something to do here.
+#[inline(always)]
+fn refused_word(machine: &mut Machine, came: Peripherals, word: u16, pulse: u8, count: &mut Count) {
+    if fault(fault::PULSE_BEFORE_WRITES) {
+        machine.peripherals = came;
+    }
+    if fault(fault::REFUSED_MOVES_TIMER) {
+        machine.peripherals.tick(1, pulse);
+    }
+    count.refused(word);
 }
 
 /// The PC after a skipped word. It is a NOP, undecoded, and meets only
@@ -149,6 +219,9 @@ fn skip_word(rom: &[u16], machine: &mut Machine, word: u16) -> Result<u16, u8> {
             Some(instruction) if unsupported(instruction) => return Err(4),
             Some(_) => {}
         }
+    }
+    if fault(fault::SKIPPED_MEETS_30) && decode(word).is_some_and(missing) {
+        return Err(30);
     }
     machine.skip = 0;
     Ok(following(rom, machine.pc))

@@ -1,5 +1,6 @@
 //! The text that the program `station` prints (document 01, "Station file";
-//! the cycles in its last line are document 02's, E3).
+//! the cycles in its last line are document 02's, E3, and so is the pulse bit,
+//! E4: it is 0 with a station file).
 
 use crate::count::Count;
 use crate::fault::{self, fault};
@@ -7,6 +8,9 @@ use crate::machine::Machine;
 use crate::station::{read, Station};
 use crate::step::{counted_step, Answer};
 use crate::verify::{verify, Verdict};
+
+/// The pulse bit of every step.
+const PULSE: u8 = 0;
 
 /// No line is longer than "4095 3FF FFFF 3FF 5 F\n".
 const LINE: usize = 22;
@@ -52,7 +56,7 @@ impl Text {
         let (mut count, mut refusal) = (Count::default(), 0);
         for (record, input) in (1..).zip(&station.inputs) {
             let before = machine.pc;
-            let word = match counted_step(&station.rom, &mut machine, input, &mut count) {
+            let word = match counted_step(&station.rom, &mut machine, input, PULSE, &mut count) {
                 Answer::Done => Some(station.rom[usize::from(before)]),
                 Answer::Standby => None,
                 Answer::Refused(number) => {

@@ -3,6 +3,7 @@
 use crate::fault::{self, fault};
 use crate::isa::{decode, unsupported, Instruction, RETSK};
 use crate::machine::{rom_in_range, LAST_ADDRESS, ROM_WORDS};
+use crate::register_file::missing;
 
 /// What the check answers.
 #[derive(Clone, Copy, Debug, PartialEq, Eq)]
@@ -101,13 +102,19 @@ impl Sheet<'_> {
         None
     }
 
-    /// Rule 3, for a word that is an instruction.
+    /// Rule 3, for a word that is an instruction. PEEK, POKE, GET and PUT are
+    /// allowed where refusal 30 does not meet them (document 02, E4).
     fn allowed(&self, instruction: Instruction, depth: u8) -> bool {
         use Instruction::*;
         match instruction {
             BrAr | CallAr | PushAr | PopAr => false,
             Movt => self.rom.len() == ROM_WORDS && depth <= 4,
-            other => !unsupported(other),
+            Peek { .. } | Poke { .. } | Get { .. } | Put { .. }
+                if fault(fault::CHECK_BANS_FOUR) =>
+            {
+                false
+            }
+            other => !unsupported(other) && (!missing(other) || fault(fault::CHECK_WITHOUT_30)),
         }
     }
 

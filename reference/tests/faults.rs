@@ -6,7 +6,7 @@
 use reference::fault::*;
 use reference::Instruction::{self, *};
 use reference::{decode, encode, run, station, step, transcript, verify};
-use reference::{Input, Machine, Station};
+use reference::{Input, Machine, Peripherals, Station};
 
 const PSW: u8 = Machine::PSW;
 
@@ -24,7 +24,7 @@ fn one(input: Input, cells: &[(u8, u8)], i: Instruction) -> String {
     for &(address, value) in cells {
         machine.cells[usize::from(address)] = value;
     }
-    let answer = step(&[word(i)], &mut machine, &input);
+    let answer = step(&[word(i)], &mut machine, &input, 0);
     format!("{answer:?} {machine:?}")
 }
 
@@ -37,13 +37,43 @@ fn changed(change: fn(&mut Machine), release: u8, words: &[u16]) -> String {
     let mut machine = Machine::reset();
     change(&mut machine);
     let input = Input { release, ..Input::default() };
-    let answer = step(words, &mut machine, &input);
+    let answer = step(words, &mut machine, &input, 0);
     format!("{answer:?} {machine:?}")
+}
+
+/// What one step makes of a machine with these cells and these peripherals.
+fn timed(pulse: u8, cells: &[(u8, u8)], peripherals: Peripherals, i: Instruction) -> String {
+    let mut machine = Machine { peripherals, ..Machine::reset() };
+    for &(address, value) in cells {
+        machine.cells[usize::from(address)] = value;
+    }
+    let answer = step(&[word(i)], &mut machine, &Input::default(), pulse);
+    format!("{answer:?} {machine:?}")
+}
+
+/// A timer with this mode, modulo register, counter and divider.
+fn timer(mode: u8, modulo: u8, counter: u8, divider: u8) -> Peripherals {
+    Peripherals { registers: [mode, 0, 0, 0, 0, 0, 0], modulo, counter, divider }
+}
+
+/// What one step makes of all pins high, all latches low and this register set.
+fn port(place: usize, value: u8, i: Instruction) -> String {
+    let mut machine = Machine::reset();
+    machine.peripherals.registers[place] = value;
+    let answer = step(&[word(i)], &mut machine, &Input { pins: [15; 5], ..Input::default() }, 0);
+    format!("{answer:?} {machine:?}")
+}
+
+/// What a run makes of a machine in standby.
+fn stood(standby: u8, budget: u32) -> String {
+    let mut machine = Machine { standby, ..Machine::reset() };
+    let report = run(&[word(Nop)], &mut machine, &Input::default(), 0, budget);
+    format!("{report:?} {machine:?}")
 }
 
 /// What a run from reset reports.
 fn ran(program: &[Instruction], budget: u32) -> String {
-    format!("{:?}", run(&rom(program), &mut Machine::reset(), &Input::default(), budget))
+    format!("{:?}", run(&rom(program), &mut Machine::reset(), &Input::default(), 0, budget))
 }
 
 fn full(machine: &mut Machine) {
@@ -69,7 +99,7 @@ fn witness(fault: u32) -> String {
         STANDBY_COUNTED | STANDBY_CYCLE => {
             let mut machine = Machine::reset();
             machine.standby = 1;
-            format!("{:?}", run(&[word(Nop)], &mut machine, &Input::default(), 5))
+            format!("{:?}", run(&[word(Nop)], &mut machine, &Input::default(), 0, 5))
         }
         RETSK_NO_SKIP => changed(|m| m.levels = 1, 0, &[word(Retsk)]),
         CHECK_NO_RETSK_CLAUSE => {
@@ -107,7 +137,7 @@ fn witness(fault: u32) -> String {
         SKIPS_EXCHANGED => format!("{:?}", decode(0xC800)),
         SIX_LEVELS => changed(|m| m.levels = 6, 0, &[word(Nop)]),
         SKIP_OF_TWO => changed(|m| m.skip = 2, 0, &[word(Nop)]),
-        STANDBY_OF_TWO => changed(|m| m.standby = 2, 0, &[word(Nop)]),
+        STANDBY_OF_THREE => changed(|m| m.standby = 3, 0, &[word(Nop)]),
         PC_PAST_LAST => changed(|m| m.pc = 1024, 0, &[word(Nop)]),
         RELEASE_OF_TWO => changed(|_| (), 2, &[word(Nop)]),
         ROM_ONE_MORE => changed(|_| (), 0, &[word(Nop); 1025]),
@@ -124,6 +154,52 @@ fn witness(fault: u32) -> String {
             let station =
                 Station { rom: rom(&[Movt]), depths: vec![], inputs: vec![Input::default()] };
             transcript(&station::write(&station).expect("a good station"))
+        }
+        _ => peripheral_witness(fault),
+    }
+}
+
+/// A case for each fault in registers and timer.
+fn peripheral_witness(fault: u32) -> String {
+    const WR: u8 = Machine::WR;
+    let mode = Poke { rf: 0x11 };
+    match fault {
+        PULSE_BEFORE_WRITES => timed(0, &[], timer(8, 255, 9, 15), Get { p: 2 }),
+        TMRES_STORED => timed(0, &[(WR, 12)], timer(8, 255, 9, 3), mode),
+        TMRES_CLEARS_DIVIDER => timed(0, &[(WR, 12)], timer(8, 255, 9, 3), mode),
+        TMRES_ONLY_RUNNING => timed(0, &[(WR, 4)], timer(8, 255, 9, 3), mode),
+        MATCH_AT_EQUALITY => timed(0, &[], timer(8, 10, 9, 15), Nop),
+        MATCH_ABOVE => timed(0, &[], timer(8, 10, 12, 15), Nop),
+        COUNTER_STUCK => timed(0, &[], timer(8, 10, 10, 15), Nop),
+        CLOCKS_EXCHANGED => timed(0, &[], timer(8, 255, 9, 1), Nop),
+        DIVIDER_STOPPED => timed(0, &[], timer(0, 255, 9, 1), Nop),
+        CLOCK_CHANGE_DIVIDES => timed(0, &[(WR, 9)], timer(8, 255, 9, 4), mode),
+        MOVT_DIVIDES_ONE => timed(0, &[], timer(8, 255, 9, 4), Movt),
+        MOVT_TWO_PULSES => timed(1, &[], timer(11, 255, 9, 4), Movt),
+        PULSE_WITH_ANY_CLOCK => timed(1, &[], timer(8, 255, 9, 4), Nop),
+        TIMER_OFF_AT_RESET => quiet(&[], Peek { rf: 0x11 }),
+        PUT_RESTARTS => timed(0, &[], timer(8, 255, 9, 4), Put { p: 3 }),
+        PUT_COUNTER => timed(0, &[], timer(8, 255, 9, 4), Put { p: 2 }),
+        GET_MODULO => timed(0, &[], timer(8, 255, 9, 4), Get { p: 3 }),
+        GET_WHOLE_BUFFER => quiet(&[(0x0C, 5)], Get { p: 2 }),
+        IX_IN_RF => quiet(&[(0x7C, 5), (0x45, 6), (PSW, 1)], Peek { rf: 0x40 }),
+        PEEK_PAST_PORT => port(6, 0, Peek { rf: 0x70 }),
+        GROUP_BY_BITS => port(2, 1, Ld { r: 1, m: 0x71 }),
+        TMOSEL_IGNORED => port(1, 1, Ld { r: 1, m: 0x73 }),
+        DIRECTIONS_OF_INPUT => port(6, 15, Ld { r: 1, m: 0x70 }),
+        SKIPPED_MEETS_30 => changed(|m| m.skip = 1, 0, &[word(Peek { rf: 0 })]),
+        REFUSED_MOVES_TIMER => quiet(&[], Ei),
+        HALT_COUNTED => stood(Machine::HALT, 5),
+        HALT_FOR_BUDGET => stood(Machine::HALT, 5),
+        BUDGET_0_STANDS => stood(Machine::HALT, 0),
+        STOP_MOVES_TIMER => stood(Machine::STOP, 5),
+        STOP_CLEARS_COUNTER => timed(0, &[], timer(8, 255, 9, 4), Stop { cond: 0 }),
+        TMRES_IN_RANGE => timed(0, &[], timer(12, 255, 9, 4), Nop),
+        DIVIDER_OF_128 => timed(0, &[], timer(8, 255, 9, 128), Nop),
+        PULSE_OF_TWO => timed(2, &[], timer(8, 255, 9, 4), Nop),
+        CHECK_BANS_FOUR => format!("{:?}", verify(&rom(&[mode, Br { addr: 0 }]), &[0, 0])),
+        CHECK_WITHOUT_30 => {
+            format!("{:?}", verify(&rom(&[Put { p: 2 }, Br { addr: 0 }]), &[0, 0]))
         }
         _ => unreachable!("fault {fault}"),
     }

@@ -1,6 +1,7 @@
 //! The proved emulator through its C entries (include/pollwezen.h). The only
 //! unsafe code of this package.
 
+mod convert;
 mod layout;
 mod structs;
 
@@ -19,12 +20,14 @@ extern "C" {
         words: usize,
         machine: *mut LentMachine,
         input: LentInput,
+        pulse: u8,
     ) -> u8;
     fn pollwezen_run(
         rom: *const u16,
         words: usize,
         machine: *mut LentMachine,
         input: LentInput,
+        pulse: u8,
         budget: u32,
     ) -> RunReply;
     fn pollwezen_verify(
@@ -70,25 +73,25 @@ pub fn reset() -> Machine {
 }
 
 /// The proved step.
-pub fn step(rom: &[u16], lent: &mut Machine, input: &Input) -> u8 {
+pub fn step(rom: &[u16], lent: &mut Machine, input: &Input, pulse: u8) -> u8 {
     let mut held = LentMachine::from(&*lent);
-    let number = step_lent(rom, &mut held, input);
+    let number = step_lent(rom, &mut held, input, pulse);
     *lent = Machine::from(&held);
     number
 }
 
 /// The proved step on a record in C's layout, as a host keeps it.
-pub fn step_lent(rom: &[u16], lent: &mut LentMachine, input: &Input) -> u8 {
+pub fn step_lent(rom: &[u16], lent: &mut LentMachine, input: &Input, pulse: u8) -> u8 {
     // SAFETY: the slice gives its own length, and `lent` is nobody else's.
-    unsafe { pollwezen_step(rom.as_ptr(), rom.len(), lent, inputs(input)) }
+    unsafe { pollwezen_step(rom.as_ptr(), rom.len(), lent, LentInput::from(input), pulse) }
 }
 
 /// The proved run.
-pub fn run(rom: &[u16], lent: &mut Machine, input: &Input, budget: u32) -> RunReply {
+pub fn run(rom: &[u16], lent: &mut Machine, input: &Input, pulse: u8, budget: u32) -> RunReply {
     let mut held = LentMachine::from(&*lent);
+    let input = LentInput::from(input);
     // SAFETY: as in `step_lent`.
-    let report =
-        unsafe { pollwezen_run(rom.as_ptr(), rom.len(), &mut held, inputs(input), budget) };
+    let report = unsafe { pollwezen_run(rom.as_ptr(), rom.len(), &mut held, input, pulse, budget) };
     *lent = Machine::from(&held);
     report
 }
@@ -149,34 +152,4 @@ pub fn write(rom: &[u16], sheet: &[u8], inputs: &[u8], out: &mut [u8]) -> Output
 pub fn transcript(file: &[u8], out: &mut [u8]) -> OutputReply {
     // SAFETY: as in `read`.
     unsafe { pollwezen_transcript(file.as_ptr(), file.len(), out.as_mut_ptr(), out.len()) }
-}
-
-impl From<&Machine> for LentMachine {
-    fn from(from: &Machine) -> LentMachine {
-        LentMachine {
-            cells: from.cells,
-            pc: from.pc,
-            stack: from.stack,
-            levels: from.levels,
-            skip: from.skip,
-            standby: from.standby,
-        }
-    }
-}
-
-impl From<&LentMachine> for Machine {
-    fn from(from: &LentMachine) -> Machine {
-        Machine {
-            cells: from.cells,
-            pc: from.pc,
-            stack: from.stack,
-            levels: from.levels,
-            skip: from.skip,
-            standby: from.standby,
-        }
-    }
-}
-
-fn inputs(from: &Input) -> LentInput {
-    LentInput { pins: from.pins, directions: from.directions, release: from.release }
 }

@@ -5,6 +5,11 @@
 #[derive(Clone, Copy)]
 pub struct LentMachine {
     pub cells: [u8; 128],
+    /// 11H, 12H, 24H, 32H, 33H, 34H, 35H.
+    pub registers: [u8; 7],
+    pub modulo: u8,
+    pub counter: u8,
+    pub divider: u8,
     pub pc: u16,
     pub stack: [u16; 5],
     pub levels: u8,

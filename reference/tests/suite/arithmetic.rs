@@ -66,6 +66,7 @@ fn every_sum_and_difference() {
             };
             let mut wanted = start;
             wanted.pc = 1;
+            wanted.peripherals = cycles_on(1);
             wanted.cells[0x7F] = compare << 3 | cy << 2 | z << 1;
             if compare == 0 {
                 wanted.cells[0x03] = result;

@@ -59,9 +59,9 @@ fn rule_3_for_the_word() {
         Di,
         Reti,
         Peek { rf: 0 },
-        Poke { rf: 0 },
-        Get { p: 0 },
-        Put { p: 0 },
+        Poke { rf: 0x10 },
+        Get { p: 3 },
+        Put { p: 2 },
         BrAr,
         CallAr,
         PushAr,
@@ -73,6 +73,20 @@ fn rule_3_for_the_word() {
         assert_eq!(reached(word), fail(1, 3), "{word:04X}");
         assert_eq!(never(word), Verdict::Pass, "{word:04X}");
     }
+}
+
+/// Document 02, E4: PEEK, POKE, GET and PUT where refusal 30 does not meet them.
+#[test]
+fn rule_3_for_the_register_file() {
+    for seven in 0..128 {
+        for instruction in four(seven) {
+            let verdict = check(&[instruction, stay(0)], &[0, 0]);
+            let wanted = if meets_30(instruction) { fail(0, 3) } else { Verdict::Pass };
+            assert_eq!(verdict, wanted, "{instruction:?}");
+        }
+    }
+    // Rule 4 holds for them as for others.
+    assert_eq!(check(&[Poke { rf: 0x11 }], &[0]), fail(0, 4));
 }
 
 #[test]

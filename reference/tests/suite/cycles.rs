@@ -11,7 +11,7 @@ fn report(steps: u32, cycles: u32, refusal: u8) -> Report {
 
 /// A run of a program from reset.
 fn ran(program: &[Instruction], budget: u32) -> Report {
-    run(&rom(program), &mut Machine::reset(), &quiet(), budget)
+    run(&rom(program), &mut Machine::reset(), &quiet(), 0, budget)
 }
 
 /// A reset machine with so many open levels.
@@ -23,7 +23,7 @@ fn open(levels: u8) -> Machine {
 fn movt_takes_two_and_every_other_word_one() {
     let mut done = 0;
     for word in 0..=u16::MAX {
-        let report = run(&[word], &mut open(1), &quiet(), 1);
+        let report = run(&[word], &mut open(1), &quiet(), 0, 1);
         let cycles = if decode(word) == Some(Movt) { 2 } else { 1 };
         if report.refusal == 0 {
             assert_eq!(report.count, Count { steps: 1, cycles }, "{word:04X}");
@@ -32,16 +32,17 @@ fn movt_takes_two_and_every_other_word_one() {
             assert_eq!(report.count, Count::default(), "{word:04X}");
         }
     }
-    // All instructions but refusal 4's (EI, DI, RETI and four of seven bits)
-    // and the 2,048 addresses of refusal 5.
-    assert_eq!(done, 55_869 - 3 - 4 * 128 - 2_048);
+    // All instructions but refusal 4's (EI, DI, RETI), refusal 30's (57 of 64
+    // control registers for PEEK and POKE, 127 peripherals for GET and PUT) and
+    // the 2,048 addresses of refusal 5.
+    assert_eq!(done, 55_869 - 3 - 2 * 57 - 2 * 127 - 2_048);
 }
 
 #[test]
 fn every_skipped_word_takes_one() {
     for word in 0..=u16::MAX {
         let mut machine = Machine { skip: 1, ..Machine::reset() };
-        assert_eq!(run(&[word], &mut machine, &quiet(), 1), report(1, 1, 0), "{word:04X}");
+        assert_eq!(run(&[word], &mut machine, &quiet(), 0, 1), report(1, 1, 0), "{word:04X}");
     }
 }
 
@@ -95,7 +96,7 @@ fn refused_runs() {
     for machine in [open(5), cells(&[(AR0, 1)])] {
         let refusal = if machine.levels == 5 { 6 } else { 8 };
         let mut left = machine.clone();
-        assert_eq!(run(&rom(&[Movt]), &mut left, &quiet(), 9), report(0, 0, refusal));
+        assert_eq!(run(&rom(&[Movt]), &mut left, &quiet(), 0, 9), report(0, 0, refusal));
         assert_eq!(left, machine);
     }
 }
@@ -107,22 +108,22 @@ fn standby() {
     let program = rom(&[Movt, Halt { cond: 0 }, Movt, Stop { cond: 0 }]);
     let released = Input { release: 1, ..quiet() };
     let mut machine = Machine::reset();
-    assert_eq!(run(&program, &mut machine, &quiet(), 100), report(2, 3, 0));
-    assert_eq!(run(&program, &mut machine, &quiet(), 100), report(0, 0, 0));
-    assert_eq!(run(&program, &mut machine, &released, 0), report(0, 0, 0));
-    assert_eq!(run(&program, &mut machine, &released, 100), report(2, 3, 0));
-    assert_eq!(run(&program, &mut machine, &released, 100), report(0, 0, 2));
+    assert_eq!(run(&program, &mut machine, &quiet(), 0, 100), report(2, 3, 0));
+    assert_eq!(run(&program, &mut machine, &quiet(), 0, 100), report(0, 0, 0));
+    assert_eq!(run(&program, &mut machine, &released, 0, 0), report(0, 0, 0));
+    assert_eq!(run(&program, &mut machine, &released, 0, 100), report(2, 3, 0));
+    assert_eq!(run(&program, &mut machine, &released, 0, 100), report(0, 0, 2));
 }
 
 /// A run that is cut in two reports the same in all.
 #[test]
 fn cut_in_two() {
     let program = rom(&[Movt, Skt { m: 0x10, n: 0 }, Movt, IncAr, Br { addr: 0 }]);
-    let whole = run(&program, &mut Machine::reset(), &quiet(), 60).count;
+    let whole = run(&program, &mut Machine::reset(), &quiet(), 0, 60).count;
     for cut in 0..=60 {
         let mut machine = Machine::reset();
-        let first = run(&program, &mut machine, &quiet(), cut).count;
-        let rest = run(&program, &mut machine, &quiet(), 60 - cut).count;
+        let first = run(&program, &mut machine, &quiet(), 0, cut).count;
+        let rest = run(&program, &mut machine, &quiet(), 0, 60 - cut).count;
         let cycles = first.cycles + rest.cycles;
         assert_eq!(Count { steps: first.steps + rest.steps, cycles }, whole);
     }

@@ -1,7 +1,7 @@
 //! Small tools for the tests.
 
 use reference::Instruction::{self, *};
-use reference::{encode, step, Answer, Input, Machine};
+use reference::{encode, step, Answer, Input, Machine, Peripherals};
 
 /// Register addresses and flags, short.
 pub const AR3: u8 = Machine::AR3;
@@ -31,7 +31,7 @@ pub fn quiet() -> Input {
 /// Runs `count` steps, all of which must be completed.
 pub fn go(rom: &[u16], machine: &mut Machine, count: usize) {
     for n in 0..count {
-        let answer = step(rom, machine, &quiet());
+        let answer = step(rom, machine, &quiet(), 0);
         assert_eq!(answer, Answer::Done, "step {n} of {count}");
     }
 }
@@ -51,7 +51,7 @@ pub fn after(program: &[Instruction]) -> Machine {
 /// One instruction on a machine, with an input.
 pub fn with_input(mut machine: Machine, input: &Input, i: Instruction) -> Machine {
     machine.pc = 0;
-    assert_eq!(step(&rom(&[i]), &mut machine, input), Answer::Done);
+    assert_eq!(step(&rom(&[i]), &mut machine, input, 0), Answer::Done);
     machine
 }
 
@@ -67,6 +67,48 @@ pub fn cells(set: &[(u8, u8)]) -> Machine {
 /// A cell of a machine.
 pub fn at(machine: &Machine, address: u8) -> u8 {
     machine.cells[usize::from(address)]
+}
+
+/// The peripherals of a reset machine so many cycles later, before the first
+/// pulse.
+pub fn cycles_on(cycles: u8) -> Peripherals {
+    assert!(cycles < 16);
+    Peripherals { divider: cycles, ..Peripherals::reset() }
+}
+
+/// The place of a control register in the machine.
+fn place(rf: u8) -> usize {
+    Peripherals::ADDRESSES.iter().position(|&address| address == rf).expect("a control register")
+}
+
+/// A control register of a machine.
+pub fn register(machine: &Machine, rf: u8) -> u8 {
+    machine.peripherals.registers[place(rf)]
+}
+
+/// A machine with these control registers set.
+pub fn with_registers(mut machine: Machine, set: &[(u8, u8)]) -> Machine {
+    for &(rf, value) in set {
+        machine.peripherals.registers[place(rf)] = value;
+    }
+    machine
+}
+
+/// PEEK, POKE, GET and PUT with this operand.
+pub fn four(seven: u8) -> [Instruction; 4] {
+    [Peek { rf: seven }, Poke { rf: seven }, Get { p: seven }, Put { p: seven }]
+}
+
+/// Document 02, E4: no such control register or peripheral.
+pub fn meets_30(instruction: Instruction) -> bool {
+    match instruction {
+        Peek { rf } | Poke { rf } => {
+            !matches!(rf, 0x11 | 0x12 | 0x24 | 0x32 | 0x33 | 0x34 | 0x35 | 0x40..)
+        }
+        Get { p } => p != 2,
+        Put { p } => p != 3,
+        _ => false,
+    }
 }
 
 /// Runs a program until PC is `stop`, and answers the number of steps.
@@ -145,7 +187,24 @@ impl Random {
             machine.stack[place] = self.below(1024) as u16;
         }
         machine.skip = u8::from(self.below(8) == 0);
-        machine.standby = u8::from(self.below(8) == 0);
+        machine.standby = [0, 0, 0, 0, 0, 0, Machine::HALT, Machine::STOP][self.below(8) as usize];
+        machine.peripherals = self.peripherals();
         machine
+    }
+
+    /// Peripherals in range, at times with the counter at or near the modulo
+    /// register.
+    fn peripherals(&mut self) -> Peripherals {
+        let registers = Peripherals::KEPT.map(|bits| self.nibble() & bits);
+        let modulo = self.below(256) as u8;
+        let counter = match self.below(2) {
+            0 => self.below(256) as u8,
+            _ => modulo.wrapping_sub(self.below(3) as u8),
+        };
+        Peripherals { registers, modulo, counter, divider: self.below(128) as u8 }
+    }
+
+    pub fn pulse(&mut self) -> u8 {
+        self.below(2) as u8
     }
 }

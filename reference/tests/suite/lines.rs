@@ -161,9 +161,11 @@ fn each_word_is_its_line(cases: &str, count: usize) {
 
 #[test]
 fn each_word_of_the_cases_is_its_line() {
-    each_word_is_its_line(include_str!("../../../cases/data/programs.cases"), 665);
+    each_word_is_its_line(include_str!("../../../cases/data/programs.cases"), 666);
     each_word_is_its_line(include_str!("../../../cases/data/data.cases"), 235);
     each_word_is_its_line(include_str!("../../../cases/data/cycles.cases"), 61);
+    each_word_is_its_line(include_str!("../../../cases/data/registers.cases"), 529);
+    each_word_is_its_line(include_str!("../../../cases/data/timer.cases"), 215);
     each_word_is_its_line(include_str!("../../../cases/data/host.cases"), 5);
     each_word_is_its_line(include_str!("../../../cases/data/checks.cases"), 627);
 }

@@ -80,10 +80,10 @@ fn pc_after_1023() {
     let mut m = Machine::reset();
     m.pc = 1023;
     let full = vec![encode(Nop).unwrap(); 1024];
-    assert_eq!(step(&full, &mut m, &quiet()), Answer::Done);
+    assert_eq!(step(&full, &mut m, &quiet(), 0), Answer::Done);
     assert_eq!(m.pc, 0);
     m.pc = 1023;
-    assert_eq!(step(&full[..1023], &mut m, &quiet()), Answer::Refused(2));
+    assert_eq!(step(&full[..1023], &mut m, &quiet(), 0), Answer::Refused(2));
     assert_eq!(m.pc, 1023);
 }
 
@@ -93,7 +93,7 @@ fn sixth_call() {
     let mut m = Machine::reset();
     go(&program, &mut m, 5);
     assert_eq!((m.levels, m.stack), (5, [1; 5]));
-    assert_eq!(step(&program, &mut m, &quiet()), Answer::Refused(6));
+    assert_eq!(step(&program, &mut m, &quiet(), 0), Answer::Refused(6));
 }
 
 #[test]

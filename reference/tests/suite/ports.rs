@@ -1,5 +1,5 @@
-//! Ports: document 01, "The machine's record"; source 000, 5.1.4 and 12.1 to
-//! 12.6.
+//! Ports: document 01, "The machine's record"; document 02, E4; source 000, 5.1.4
+//! and 12.1 to 12.7.
 
 use crate::kit::*;
 use reference::Instruction::*;
@@ -15,8 +15,28 @@ fn port_input(port: usize, pin: u8, direction: u8) -> Input {
     input
 }
 
+/// The control registers that make these directions of a port, and the
+/// directions that they make: P0B has one bit for all four pins, and P0E no
+/// more than two.
+fn registers(port: usize, direction: u8) -> ((u8, u8), u8) {
+    match port {
+        0 => ((0x35, direction), direction),
+        1 => ((0x24, direction & 1), if direction & 1 == 1 { 0xF } else { 0 }),
+        2 => ((0x34, direction), direction),
+        3 => ((0x33, direction), direction),
+        _ => ((0x32, direction & 3), direction & 3),
+    }
+}
+
+/// What reading a port gives, by its bits.
+fn read(pin: u8, direction: u8, stored: u8) -> u8 {
+    let sources = [1, 2, 4, 8].map(|bit| bit & if direction & bit == 0 { pin } else { stored });
+    sources.into_iter().sum()
+}
+
 /// A port bit gives the pin where its direction is 0, the stored bit where
-/// it is 1; P0E's two high bits read 0.
+/// it is 1; P0E's two high bits read 0. The other ports are set against it, and
+/// so are the record's direction nibbles, which are not read.
 #[test]
 fn every_read() {
     for (port, &address) in PORTS.iter().enumerate() {
@@ -24,14 +44,60 @@ fn every_read() {
         for case in 0..4096_u16 {
             let [pin, direction, stored] = [0, 4, 8].map(|shift| (case >> shift & 0xF) as u8);
             let stored = stored & real;
-            let input = port_input(port, pin, direction);
-            let m = with_input(cells(&[(address, stored)]), &input, Ld { r: 0, m: address });
-            let mut wanted = 0;
-            for bit in [1, 2, 4, 8] {
-                let source = if direction & bit == 0 { pin } else { stored };
-                wanted |= source & bit & real;
+            let mut input = port_input(port, pin, 0);
+            let mut machine = cells(&[(address, stored)]);
+            for other in 0..5 {
+                let (register, _) = registers(other, !direction & 0xF);
+                machine = with_registers(machine, &[register]);
+                input.directions[other] = !direction & 0xF;
             }
+            let (register, made) = registers(port, direction);
+            let machine = with_registers(machine, &[register]);
+            let m = with_input(machine, &input, Ld { r: 0, m: address });
+            let wanted = read(pin, made, stored) & real;
             assert_eq!((at(&m, 0), at(&m, address)), (wanted, stored));
+        }
+    }
+}
+
+/// Source 000, 13.1.8 and table 12-6: with TMOSEL 1, P0D3 reads its latch
+/// whatever P0DBIO3 says. The other ports and pins do not change.
+#[test]
+fn timer_output() {
+    for case in 0..4096_u16 {
+        let [pin, direction, stored] = [0, 4, 8].map(|shift| (case >> shift & 0xF) as u8);
+        let input = Input { pins: [pin; 5], ..quiet() };
+        let latches = PORTS.map(|port| (port, if port == 0x6F { stored & 3 } else { stored }));
+        let machine = with_registers(cells(&latches), &[(0x33, direction), (0x12, 1)]);
+        let m = with_input(machine.clone(), &input, Ld { r: 0, m: 0x73 });
+        assert_eq!(at(&m, 0), read(pin, direction | 8, stored));
+        for port in [0x70, 0x71, 0x72] {
+            assert_eq!(at(&with_input(machine.clone(), &input, Ld { r: 0, m: port }), 0), pin);
+        }
+        assert_eq!(at(&with_input(machine, &input, Ld { r: 0, m: 0x6F }), 0), pin & 3);
+    }
+}
+
+/// At reset every pin is an input, whatever the record says.
+#[test]
+fn all_inputs_at_reset() {
+    for (port, &address) in PORTS.iter().enumerate() {
+        let input = port_input(port, 0xF, 0xF);
+        let m = with_input(Machine::reset(), &input, Ld { r: 0, m: address });
+        assert_eq!(at(&m, 0), if address == 0x6F { 3 } else { 0xF });
+    }
+}
+
+/// Source 000, 12.5: a change of direction leaves the latch.
+#[test]
+fn directions_leave_the_latch() {
+    for rf in [0x12, 0x24, 0x32, 0x33, 0x34, 0x35] {
+        for value in [0xF, 0] {
+            let latches = PORTS.map(|port| (port, 2));
+            let mut machine = with_registers(cells(&latches), &[(rf, 1)]);
+            machine.cells[0x78] = value;
+            let m = with_input(machine, &quiet(), Poke { rf });
+            assert!(PORTS.iter().all(|&port| at(&m, port) == 2));
         }
     }
 }
@@ -40,8 +106,9 @@ fn every_read() {
 fn a_write_stores_the_whole_nibble() {
     for (port, &address) in PORTS.iter().enumerate() {
         for direction in 0..16 {
-            let input = port_input(port, 0, direction);
-            let m = with_input(Machine::reset(), &input, mov(address, 0xF));
+            let (register, _) = registers(port, direction);
+            let machine = with_registers(Machine::reset(), &[register]);
+            let m = with_input(machine, &quiet(), mov(address, 0xF));
             assert_eq!(at(&m, address), if address == 0x6F { 3 } else { 0xF });
         }
     }

@@ -1,16 +1,16 @@
-//! Refusals 1 to 8, their order, and the record after them: document 01,
-//! "Refusal numbers".
+//! Refusals 1 to 8 and 30, their order, and the record after them: document 01,
+//! "Refusal numbers"; document 02, E4.
 
 use crate::kit::*;
-use reference::Instruction::{self, *};
+use reference::Instruction::*;
 use reference::{encode, run, step, Answer, Count, Input, Machine, Report};
 
 /// The step and the run are refused so, and leave the record as it came.
 fn refused(rom: &[u16], machine: &Machine, input: &Input, number: u8) {
     let mut after = machine.clone();
-    assert_eq!(step(rom, &mut after, input), Answer::Refused(number));
+    assert_eq!(step(rom, &mut after, input, 0), Answer::Refused(number));
     assert_eq!(&after, machine);
-    let report = run(rom, &mut after, input, 5);
+    let report = run(rom, &mut after, input, 0, 5);
     assert_eq!(report, Report { count: Count::default(), refusal: number });
     assert_eq!(&after, machine);
 }
@@ -31,7 +31,7 @@ fn one_for_the_rom() {
     refused(&[], &Machine::reset(), &quiet(), 1);
     refused(&vec![nop()[0]; 1025], &Machine::reset(), &quiet(), 1);
     let mut machine = Machine::reset();
-    assert_eq!(step(&vec![nop()[0]; 1024], &mut machine, &quiet()), Answer::Done);
+    assert_eq!(step(&vec![nop()[0]; 1024], &mut machine, &quiet(), 0), Answer::Done);
 }
 
 #[test]
@@ -57,7 +57,7 @@ fn one_for_each_cell() {
 
 #[test]
 fn one_for_each_other_field() {
-    let changes: [fn(&mut Machine); 11] = [
+    let changes: [fn(&mut Machine); 14] = [
         |m| m.pc = 1024,
         |m| m.pc = 65_535,
         |m| m.levels = 6,
@@ -68,7 +68,10 @@ fn one_for_each_other_field() {
         |m| (m.levels, m.stack[4]) = (4, 1),
         |m| (m.levels, m.stack[1]) = (1, 1024),
         |m| m.skip = 2,
-        |m| m.standby = 2,
+        |m| m.standby = 3,
+        |m| m.standby = 255,
+        |m| m.peripherals.divider = 128,
+        |m| m.peripherals.divider = 255,
     ];
     for change in changes {
         let mut machine = Machine::reset();
@@ -77,6 +80,50 @@ fn one_for_each_other_field() {
         refused(&nop(), &machine, &quiet(), 1);
     }
     assert!(full_stack().in_range());
+}
+
+/// Document 02, E4: a bit that a register does not have, TMRES too. Every
+/// modulo register and counter is in range, and every divider to 127.
+#[test]
+fn one_for_each_control_register() {
+    let kept = [0b1011, 0b0001, 0b0001, 0b0011, 0b1111, 0b1111, 0b1111];
+    for (place, bits) in kept.into_iter().enumerate() {
+        for value in 0..=255_u8 {
+            let mut machine = Machine::reset();
+            machine.peripherals.registers[place] = value;
+            let good = value & !bits == 0;
+            assert_eq!(machine.in_range(), good, "{place} {value}");
+            if !good {
+                refused(&nop(), &machine, &quiet(), 1);
+                machine.standby = Machine::STOP;
+                refused(&nop(), &machine, &quiet(), 1);
+            }
+        }
+    }
+    for value in 0..=255 {
+        let mut machine = Machine::reset();
+        machine.peripherals.modulo = value;
+        machine.peripherals.counter = !value;
+        machine.peripherals.divider = value / 2;
+        assert!(machine.in_range());
+    }
+}
+
+/// A pulse above 1, whatever the clock, in every kind of call.
+#[test]
+fn one_for_the_pulse() {
+    for standby in [0, Machine::HALT, Machine::STOP] {
+        let machine = Machine { standby, ..Machine::reset() };
+        let mut after = machine.clone();
+        for pulse in [2, 3, 128, 255] {
+            assert_eq!(step(&nop(), &mut after, &quiet(), pulse), Answer::Refused(1));
+            for budget in [0, 5] {
+                let report = run(&nop(), &mut after, &quiet(), pulse, budget);
+                assert_eq!(report, Report { count: Count::default(), refusal: 1 });
+            }
+        }
+        assert_eq!(after, machine);
+    }
 }
 
 #[test]
@@ -118,11 +165,32 @@ fn three_and_four_for_the_word() {
     for word in [0x6800, 0x7000, 0x7FFF, 0xB800, 0xBFFF, 0x3800, 0x3811, 0x3910, 0x3CF1] {
         refused(&[word], &Machine::reset(), &quiet(), 3);
     }
-    let unsupported: [Instruction; 7] =
-        [Ei, Di, Reti, Peek { rf: 1 }, Poke { rf: 0x7F }, Get { p: 1 }, Put { p: 0x40 }];
-    for instruction in unsupported {
+    for instruction in [Ei, Di, Reti] {
         refused(&rom(&[instruction]), &Machine::reset(), &quiet(), 4);
     }
+}
+
+/// Refused on every machine, with the timer at a pulse too.
+#[test]
+fn thirty_for_registers_and_peripherals() {
+    let mut count = 0;
+    for instruction in (0..128).flat_map(four).filter(|&i| meets_30(i)) {
+        let mut machine = cells(&[(0x78, 0xF), (0x0E, 0xF), (IXM, 7), (PSW, IXE)]);
+        refused(&rom(&[instruction]), &machine, &quiet(), 30);
+        machine.peripherals.divider = 127;
+        machine.standby = Machine::HALT;
+        let released = Input { release: 1, ..quiet() };
+        refused(&rom(&[instruction]), &machine, &released, 30);
+        count += 1;
+    }
+    assert_eq!(count, 2 * 57 + 2 * 127);
+    // 2 comes before it, and a skipped word does not meet it.
+    let program = rom(&[Peek { rf: 0 }]);
+    let mut machine = Machine { pc: 1, ..Machine::reset() };
+    refused(&program, &machine, &quiet(), 2);
+    (machine.pc, machine.skip) = (0, 1);
+    assert_eq!(step(&program, &mut machine, &quiet(), 0), Answer::Done);
+    assert_eq!((machine.pc, machine.skip), (1, 0));
 }
 
 #[test]

@@ -73,9 +73,10 @@ fn a_skipped_word_is_not_decoded() {
     for word in 0..=u16::MAX {
         let mut m = Machine::reset();
         m.skip = 1;
-        assert_eq!(step(&[word], &mut m, &quiet()), Answer::Done);
+        assert_eq!(step(&[word], &mut m, &quiet(), 0), Answer::Done);
         let mut wanted = Machine::reset();
         wanted.pc = 1;
+        wanted.peripherals = cycles_on(1);
         assert_eq!(m, wanted);
     }
     let rom = [rom(&[Ske { m: 0, n: 0 }])[0], 0xB800, rom(&[Nop])[0]];
@@ -113,7 +114,7 @@ fn a_skip_past_the_rom() {
     let program = rom(&[Ske { m: 0, n: 0 }]);
     go(&program, &mut m, 1);
     let before = m.clone();
-    assert_eq!(step(&program, &mut m, &quiet()), Answer::Refused(2));
+    assert_eq!(step(&program, &mut m, &quiet(), 0), Answer::Refused(2));
     assert_eq!(m, before);
 }
 

@@ -65,7 +65,7 @@ fn section_18_5_8_branches() {
     let program = rom(&[Br { addr: 1023 }]);
     let mut m = Machine::reset();
     go(&program, &mut m, 1);
-    assert_eq!(step(&program, &mut m, &quiet()), Answer::Refused(2));
+    assert_eq!(step(&program, &mut m, &quiet(), 0), Answer::Refused(2));
 }
 
 #[test]
@@ -118,7 +118,7 @@ fn table_reference_and_levels() {
         m.levels = levels;
         m.stack[..usize::from(levels)].fill(9);
         let before = m.clone();
-        let answer = step(&rom(&[Movt]), &mut m, &quiet());
+        let answer = step(&rom(&[Movt]), &mut m, &quiet(), 0);
         if levels == 5 {
             assert_eq!((answer, &m), (Answer::Refused(6), &before));
         } else {

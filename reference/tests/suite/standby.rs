@@ -17,12 +17,15 @@ fn report(steps: u32, refusal: u8) -> Report {
 #[test]
 fn every_operand_stands_by() {
     for cond in 0..16 {
-        for instruction in [Halt { cond }, Stop { cond }] {
+        for (instruction, standby) in
+            [(Halt { cond }, Machine::HALT), (Stop { cond }, Machine::STOP)]
+        {
             for input in [quiet(), released()] {
                 let m = with_input(Machine::reset(), &input, instruction);
                 let mut wanted = Machine::reset();
                 wanted.pc = 1;
-                wanted.standby = 1;
+                wanted.standby = standby;
+                wanted.peripherals = cycles_on(1);
                 assert_eq!(m, wanted);
             }
         }
@@ -31,16 +34,16 @@ fn every_operand_stands_by() {
 
 #[test]
 fn standby_and_release() {
-    let program = rom(&[Halt { cond: 8 }, mov(0x10, 5), Br { addr: 1 }]);
+    let program = rom(&[Stop { cond: 8 }, mov(0x10, 5), Br { addr: 1 }]);
     let mut m = Machine::reset();
     go(&program, &mut m, 1);
     let stood = m.clone();
-    assert_eq!(step(&program, &mut m, &quiet()), Answer::Standby);
+    assert_eq!(step(&program, &mut m, &quiet(), 0), Answer::Standby);
     assert_eq!(m, stood);
-    assert_eq!(step(&program, &mut m, &released()), Answer::Done);
+    assert_eq!(step(&program, &mut m, &released(), 0), Answer::Done);
     assert_eq!((m.pc, m.standby, at(&m, 0x10)), (2, 0, 5));
     // Release is ignored otherwise.
-    assert_eq!(step(&program, &mut m, &released()), Answer::Done);
+    assert_eq!(step(&program, &mut m, &released(), 0), Answer::Done);
     assert_eq!((m.pc, m.standby), (1, 0));
 }
 
@@ -50,12 +53,12 @@ fn standby_past_the_rom() {
     let program = rom(&[Halt { cond: 0 }]);
     let mut m = Machine::reset();
     go(&program, &mut m, 1);
-    assert_eq!(step(&program, &mut m, &quiet()), Answer::Standby);
-    assert_eq!(step(&[], &mut m, &quiet()), Answer::Refused(1));
+    assert_eq!(step(&program, &mut m, &quiet(), 0), Answer::Standby);
+    assert_eq!(step(&[], &mut m, &quiet(), 0), Answer::Refused(1));
     let stood = m.clone();
-    assert_eq!(step(&program, &mut m, &released()), Answer::Refused(2));
+    assert_eq!(step(&program, &mut m, &released(), 0), Answer::Refused(2));
     assert_eq!(m, stood, "the mark stays with a refused release");
-    assert_eq!(run(&program, &mut m, &released(), 9), report(0, 2));
+    assert_eq!(run(&program, &mut m, &released(), 0, 9), report(0, 2));
     assert_eq!(m, stood);
 }
 
@@ -65,8 +68,8 @@ fn standby_with_a_skip_pending() {
     let mut m = Machine::reset();
     m.skip = 1;
     m.standby = 1;
-    assert_eq!(step(&[0x7FFF], &mut m, &quiet()), Answer::Standby);
-    assert_eq!(step(&[0x7FFF], &mut m, &released()), Answer::Done);
+    assert_eq!(step(&[0x7FFF], &mut m, &quiet(), 0), Answer::Standby);
+    assert_eq!(step(&[0x7FFF], &mut m, &released(), 0), Answer::Done);
     assert_eq!((m.pc, m.skip, m.standby), (1, 0, 0));
 }
 
@@ -75,31 +78,31 @@ fn runs_end_at_the_budget() {
     let program = rom(&[AddMN { m: 0x10, n: 1 }, Br { addr: 0 }]);
     for budget in [0, 1, 2, 3, 100, 65_535] {
         let mut m = Machine::reset();
-        assert_eq!(run(&program, &mut m, &quiet(), budget), report(budget, 0));
+        assert_eq!(run(&program, &mut m, &quiet(), 0, budget), report(budget, 0));
         assert_eq!(u32::from(m.pc), budget % 2);
         assert_eq!(u32::from(at(&m, 0x10)), budget.div_ceil(2) % 16);
     }
     let mut m = Machine::reset();
-    assert_eq!(run(&program, &mut m, &quiet(), 65_536), report(0, 1));
-    assert_eq!(run(&program, &mut m, &quiet(), u32::MAX), report(0, 1));
+    assert_eq!(run(&program, &mut m, &quiet(), 0, 65_536), report(0, 1));
+    assert_eq!(run(&program, &mut m, &quiet(), 0, u32::MAX), report(0, 1));
     assert_eq!(m, Machine::reset());
 }
 
 #[test]
 fn runs_end_in_standby() {
-    let program = rom(&[Nop, Halt { cond: 0 }, Nop, Stop { cond: 0 }, Br { addr: 0 }]);
+    let program = rom(&[Nop, Stop { cond: 0 }, Nop, Halt { cond: 0 }, Br { addr: 0 }]);
     let mut m = Machine::reset();
-    assert_eq!(run(&program, &mut m, &quiet(), 100), report(2, 0));
-    assert_eq!((m.pc, m.standby), (2, 1));
+    assert_eq!(run(&program, &mut m, &quiet(), 0, 100), report(2, 0));
+    assert_eq!((m.pc, m.standby), (2, Machine::STOP));
     let stood = m.clone();
-    assert_eq!(run(&program, &mut m, &quiet(), 100), report(0, 0));
-    assert_eq!(run(&program, &mut m, &released(), 0), report(0, 0));
+    assert_eq!(run(&program, &mut m, &quiet(), 0, 100), report(0, 0));
+    assert_eq!(run(&program, &mut m, &released(), 0, 0), report(0, 0));
     assert_eq!(m, stood);
-    assert_eq!(run(&program, &mut m, &released(), 100), report(2, 0));
-    assert_eq!((m.pc, m.standby), (4, 1));
+    assert_eq!(run(&program, &mut m, &released(), 0, 100), report(2, 0));
+    assert_eq!((m.pc, m.standby), (4, Machine::HALT));
     // Budget and standby at one and the same step.
-    assert_eq!(run(&program, &mut m, &released(), 3), report(3, 0));
-    assert_eq!((m.pc, m.standby), (2, 1));
+    assert_eq!(run(&program, &mut m, &released(), 0, 3), report(3, 0));
+    assert_eq!((m.pc, m.standby), (2, Machine::STOP));
 }
 
 /// A refused run keeps the state of its completed steps.
@@ -107,17 +110,19 @@ fn runs_end_in_standby() {
 fn runs_end_at_a_refusal() {
     let program = rom(&[mov(0x10, 5), mov(0x11, 6), Ret]);
     let mut m = Machine::reset();
-    assert_eq!(run(&program, &mut m, &quiet(), 100), report(2, 7));
+    assert_eq!(run(&program, &mut m, &quiet(), 0, 100), report(2, 7));
     let mut wanted = cells(&[(0x10, 5), (0x11, 6)]);
     wanted.pc = 2;
+    wanted.peripherals = cycles_on(2);
     assert_eq!(m, wanted);
-    assert_eq!(run(&program, &mut m, &quiet(), 0), report(0, 0));
-    assert_eq!(run(&program, &mut m, &quiet(), 1), report(0, 7));
+    assert_eq!(run(&program, &mut m, &quiet(), 0, 0), report(0, 0));
+    assert_eq!(run(&program, &mut m, &quiet(), 0, 1), report(0, 7));
     assert_eq!(m, wanted);
     // A released first step, then a refusal: the mark is gone with the step.
     m.pc = 0;
     m.standby = 1;
-    assert_eq!(run(&program, &mut m, &released(), 100), report(2, 7));
+    wanted.peripherals = cycles_on(4);
+    assert_eq!(run(&program, &mut m, &released(), 0, 100), report(2, 7));
     assert_eq!(m, wanted);
 }
 
@@ -129,12 +134,12 @@ fn run_ranges() {
         let mut m = Machine::reset();
         m.cells[AR3 as usize] = 1;
         let before = m.clone();
-        assert_eq!(run(&program, &mut m, &quiet(), budget), report(0, 1));
+        assert_eq!(run(&program, &mut m, &quiet(), 0, budget), report(0, 1));
         assert_eq!(m, before);
         let mut m = Machine::reset();
-        assert_eq!(run(&[], &mut m, &quiet(), budget), report(0, 1));
+        assert_eq!(run(&[], &mut m, &quiet(), 0, budget), report(0, 1));
         let loud = Input { release: 2, ..quiet() };
-        assert_eq!(run(&program, &mut m, &loud, budget), report(0, 1));
+        assert_eq!(run(&program, &mut m, &loud, 0, budget), report(0, 1));
         assert_eq!(m, Machine::reset());
     }
 }

@@ -122,3 +122,36 @@ fn cycles_at_the_end() {
     assert_eq!(end(&[Movt, Halt { cond: 0 }], 9), "END 2 3 0");
     assert_eq!(end(&[Movt; 1024], 4095), "END 4095 8190 0");
 }
+
+/// Document 02, E4: HALT's standing records move the timer, so that GET finds 1
+/// and the ADD carries, and are not counted; STOP's do not.
+#[test]
+fn standing_records_and_the_timer() {
+    let released = Input { release: 1, ..quiet() };
+    let mut inputs = vec![quiet(); 16];
+    inputs.extend([released; 2]);
+    let counted = [Get { p: 2 }, AddMN { m: 0x0F, n: 0xF }];
+    let all = text(&[Halt { cond: 0 }, counted[0], counted[1]], &[], &inputs);
+    assert!(all.contains("\n16 001 ---- 001 0 0\n17 001 38B2 002 0 0\n"), "{all}");
+    assert!(all.ends_with("\n18 002 80FF 003 0 6\nEND 3 3 0\n"), "{all}");
+    let all = text(&[Stop { cond: 0 }, counted[0], counted[1]], &[], &inputs);
+    assert!(all.ends_with("\n18 002 80FF 003 0 0\nEND 3 3 0\n"), "{all}");
+}
+
+/// With a station file the pulse bit is 0: the INT clock never counts.
+#[test]
+fn no_pulse_in_a_file() {
+    let program = [
+        mov(0x78, 0xB),
+        Poke { rf: 0x11 },
+        Get { p: 2 },
+        AddMN { m: 0x0F, n: 0xF },
+        Br { addr: 2 },
+    ];
+    let all = text(&program, &[0; 5], &[quiet(); 200]);
+    assert!(all.starts_with("SHEET PASS\n1 000 EF8B 001 0 0\n2 001 3921 002 0 0\n"), "{all}");
+    assert!(all.lines().skip(1).take(200).all(|line| line.ends_with(" 0 0")), "{all}");
+    // fx/32 instead does count.
+    let program = [mov(0x78, 0x9), program[1], program[2], program[3], program[4]];
+    assert!(text(&program, &[0; 5], &[quiet(); 200]).contains(" 80FF 004 0 4\n"));
+}

@@ -3,7 +3,7 @@
 use crate::kit::*;
 use reference::Instruction::{self, *};
 use reference::{decode, encode, run, step, verify};
-use reference::{Answer, Count, Input, Machine, Report, Verdict};
+use reference::{Answer, Count, Input, Machine, Peripherals, Report, Verdict};
 
 /// Whatever comes, a step keeps the range, and a refused one the record.
 #[test]
@@ -14,12 +14,19 @@ fn random_steps() {
         let mut machine = random.machine();
         machine.pc = random.below(rom.len() as u64 + 1) as u16;
         let before = machine.clone();
-        match step(&rom, &mut machine, &random.input()) {
+        let (input, pulse) = (random.input(), random.pulse());
+        match step(&rom, &mut machine, &input, pulse) {
             Answer::Done => assert!(machine.in_range(), "{before:?}"),
-            Answer::Standby => assert_eq!(machine, before),
+            Answer::Standby => {
+                assert!(machine.in_range(), "{before:?}");
+                assert_eq!(machine == before, before.standby == Machine::STOP);
+                machine.peripherals.counter = before.peripherals.counter;
+                machine.peripherals.divider = before.peripherals.divider;
+                assert_eq!(machine, before);
+            }
             Answer::Refused(number) => {
                 assert_eq!(machine, before);
-                assert!((2..=8).contains(&number));
+                assert!(matches!(number, 2..=8 | 30));
             }
         }
     }
@@ -27,12 +34,18 @@ fn random_steps() {
 
 /// A run is its steps, one after the other, and a MOVT that is not skipped
 /// takes a cycle more.
-fn run_by_steps(rom: &[u16], machine: &mut Machine, input: &Input, budget: u32) -> Report {
+fn run_by_steps(
+    rom: &[u16],
+    machine: &mut Machine,
+    input: &Input,
+    pulse: u8,
+    budget: u32,
+) -> Report {
     let mut count = Count::default();
     while count.steps < budget {
         let skipped = machine.skip == 1;
         let word = rom.get(usize::from(machine.pc)).and_then(|&word| decode(word));
-        match step(rom, machine, input) {
+        match step(rom, machine, input, pulse) {
             Answer::Done => {
                 count.steps += 1;
                 count.cycles += if word == Some(Movt) && !skipped { 2 } else { 1 };
@@ -40,7 +53,7 @@ fn run_by_steps(rom: &[u16], machine: &mut Machine, input: &Input, budget: u32) 
             Answer::Standby => break,
             Answer::Refused(refusal) => return Report { count, refusal },
         }
-        if machine.standby == 1 {
+        if machine.standby != 0 {
             break;
         }
     }
@@ -61,26 +74,29 @@ fn random_runs() {
             machine.cells[0x74..0x77].fill(0);
         }
         let mut twin = machine.clone();
-        let input = random.input();
+        let (input, pulse) = (random.input(), random.pulse());
         let budget = random.below(60) as u32;
-        let report = run(&rom, &mut machine, &input, budget);
-        assert_eq!(report, run_by_steps(&rom, &mut twin, &input, budget));
+        let report = run(&rom, &mut machine, &input, pulse, budget);
+        assert_eq!(report, run_by_steps(&rom, &mut twin, &input, pulse, budget));
         assert_eq!(machine, twin);
         longer += u32::from(report.count.cycles > report.count.steps);
     }
     assert!(longer > 1_000, "{longer} runs with a MOVT");
 }
 
-/// A word that is an instruction, at times MOVT; BR and CALL stay below
-/// `length`.
+/// A word that is an instruction, at times MOVT or one that works on the timer;
+/// BR and CALL stay below `length`.
 fn likely_word(random: &mut Random, length: u64) -> u16 {
-    if random.below(16) == 0 {
-        return encode(Movt).unwrap();
+    match random.below(32) {
+        0 | 1 => return encode(Movt).unwrap(),
+        2 => return encode(on_timer(random)).unwrap(),
+        _ => {}
     }
     loop {
         let word = random.word();
         match decode(word) {
             None => {}
+            Some(instruction) if meets_30(instruction) => {}
             Some(Br { .. }) => return encode(Br { addr: random.below(length) as u16 }).unwrap(),
             Some(Call { .. }) => {
                 return encode(Call { addr: random.below(length) as u16 }).unwrap()
@@ -88,6 +104,13 @@ fn likely_word(random: &mut Random, length: u64) -> u16 {
             Some(_) => return word,
         }
     }
+}
+
+/// An instruction on a control register, the counter or the modulo register.
+fn on_timer(random: &mut Random) -> Instruction {
+    let rf = Peripherals::ADDRESSES[random.below(7) as usize];
+    [Get { p: 2 }, Put { p: 3 }, Poke { rf: 0x11 }, Poke { rf }, Peek { rf }]
+        [random.below(5) as usize]
 }
 
 /// A ROM that passes the check: six blocks of 32 words, one for each level,
@@ -120,12 +143,13 @@ fn inner(random: &mut Random, front: u16, level: u16) -> Instruction {
         1 | 2 if level < 5 => Call { addr: front + 32 + random.below(30) as u16 },
         3 if level > 0 => [Ret, Retsk][random.below(2) as usize],
         4 if random.below(4) == 0 => Halt { cond: random.nibble() },
+        5 => on_timer(random),
         _ => loop {
             match decode(random.word()) {
                 Some(Br { .. } | Call { .. } | BrAr | CallAr | PushAr | PopAr | Movt) => {}
                 Some(Ret | Retsk | Reti | Ei | Di | Halt { .. } | Stop { .. }) => {}
-                Some(Peek { .. } | Poke { .. } | Get { .. } | Put { .. }) | None => {}
-                Some(instruction) => return instruction,
+                Some(instruction) if !meets_30(instruction) => return instruction,
+                _ => {}
             }
         },
     }
@@ -144,27 +168,32 @@ fn passed_roms() {
         for _ in 0..500 {
             assert_eq!(depths.get(usize::from(machine.pc)), Some(&open));
             assert_eq!(machine.levels, open);
-            let mut input = random.input();
+            let (mut input, pulse) = (random.input(), random.pulse());
             if random.below(20) == 0 {
+                assert_eq!(step(&rom, &mut machine, &input, 2), Answer::Refused(1));
                 input.pins[0] = 16;
-                assert_eq!(step(&rom, &mut machine, &input), Answer::Refused(1));
+                assert_eq!(step(&rom, &mut machine, &input, pulse), Answer::Refused(1));
                 continue;
             }
             if random.below(4) == 0 {
                 let mut twin = machine.clone();
                 let budget = random.below(50) as u32;
-                let report = run(&rom, &mut machine, &input, budget);
+                let report = run(&rom, &mut machine, &input, pulse, budget);
                 assert_eq!(report.refusal, 0);
+                // A run that begins in standby does one step that is not counted.
+                if budget > 0 && twin.standby != 0 && input.release == 0 {
+                    assert_eq!(step(&rom, &mut twin, &input, pulse), Answer::Standby);
+                }
                 for _ in 0..report.count.steps {
                     open = counted(&rom, &twin, open);
-                    assert_eq!(step(&rom, &mut twin, &input), Answer::Done);
+                    assert_eq!(step(&rom, &mut twin, &input, pulse), Answer::Done);
                     assert_eq!(depths[usize::from(twin.pc)], open);
                 }
                 assert_eq!(machine, twin);
                 continue;
             }
             let next = counted(&rom, &machine, open);
-            match step(&rom, &mut machine, &input) {
+            match step(&rom, &mut machine, &input, pulse) {
                 Answer::Done => open = next,
                 Answer::Standby => {}
                 Answer::Refused(number) => panic!("refused with {number}"),

@@ -120,12 +120,11 @@ fn steps_and_words_agree() {
     for word in 0..=u16::MAX {
         let mut machine = Machine::reset();
         machine.levels = 1;
-        let answer = step(&[word], &mut machine, &quiet());
+        let answer = step(&[word], &mut machine, &quiet(), 0);
         let expected = match decode(word) {
             None => Answer::Refused(3),
-            Some(Ei | Di | Reti | Peek { .. } | Poke { .. } | Get { .. } | Put { .. }) => {
-                Answer::Refused(4)
-            }
+            Some(Ei | Di | Reti) => Answer::Refused(4),
+            Some(instruction) if meets_30(instruction) => Answer::Refused(30),
             Some(Br { addr } | Call { addr }) if addr >= 1024 => Answer::Refused(5),
             Some(_) => Answer::Done,
         };
