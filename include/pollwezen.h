@@ -1,6 +1,6 @@
 /* Pollwezen: the uPD17132 for a host program in C. Link libpollwezen.a, which `rt staticlib pollwezen` writes.
  * The contracts are in crates/pollwezen/src/lib.rt; the definitions that they cite in the folders specs of crates/memory,
- * crates/machine and crates/cpu (record, step, run), crates/verifier and crates/clearance (the check), crates/listing (words),
+ * crates/peripherals, crates/machine and crates/cpu (record, step, run), crates/verifier and crates/clearance (the check), crates/listing (words),
  * crates/station_file, crates/transcript and crates/pollwezen.
  * The caller keeps what C asks of any call: pointers to as many elements as said, and a lent record or buffer that no other
  * argument overlaps. Where a length is 0 its pointer may be NULL, as tested; that of a lent record may not. Whatever stands in
@@ -27,11 +27,12 @@ extern "C" {
 #define POLLWEZEN_FAIL 254    /* a sheet that fails */
 #define POLLWEZEN_STANDBY 255 /* the machine stays in standby (a step only) */
 
-/* Every other number is a refusal of document 01:
- *    1  record, mark or input out of range, ROM not 1 to 1,024 words, budget too large, row past the list
+/* Every other number is a refusal of documents 01 and 02:
+ *    1  record, mark, input or pulse out of range, ROM not 1 to 1,024 words, budget too large, row past the list
  *    2  PC at or past the number of ROM words
  *    3  the word is no instruction
- *    4  EI, DI, RETI, PEEK, POKE, GET or PUT
+ *    4  EI, DI or RETI
+ *   30  PEEK, POKE, GET or PUT of a control register or peripheral that there is not (after 4, before 5)
  *    5  BR or CALL to 1,024 or more
  *    6  stack full
  *    7  stack empty
@@ -51,9 +52,17 @@ extern "C" {
 #define POLLWEZEN_FILE_BYTES 48125
 #define POLLWEZEN_TEXT_BYTES 100000 /* the longest text has 89,016 */
 
-/* The machine's record. The marks are 0 or 1. */
+/* The machine's record. The skip mark is 0 or 1; the standby mark is 0, or tells HALT and STOP apart. A record from
+ * pollwezen_reset runs its timer with fx/256, and all its ports are inputs. */
+#define POLLWEZEN_HALT 1
+#define POLLWEZEN_STOP 2
+
 typedef struct {
     uint8_t cells[128];
+    uint8_t registers[7]; /* the control registers 11H, 12H, 24H, 32H, 33H, 34H and 35H, in that order */
+    uint8_t modulo;       /* the timer's modulo register */
+    uint8_t counter;      /* the timer's counter */
+    uint8_t divider;      /* instruction cycles since reset, modulo 128: the timer's clock */
     uint16_t pc;
     uint16_t stack[5];
     uint8_t levels;
@@ -61,7 +70,16 @@ typedef struct {
     uint8_t standby;
 } pollwezen_machine;
 
-/* The input record: P0A to P0E, a nibble each, and the release bit. It is the eleven bytes of a record in a station file, in
+/* Lamps and timer. A port's lamps are its stored nibble (cells[0x70] to [0x73] for P0A to P0D, cells[0x6F] for P0E), whatever its
+ * direction is; the program sets directions by POKE of 24H and 32H to 35H, and they decide what it reads. The timer moves with every
+ * completed step, by its cycles, and by one cycle with every step that stays in HALT: so a board that blinks by the timer blinks in
+ * the time of its steps, 16 clocks a cycle. Not modelled, so that a page must not count on it:
+ * - TMOUT: a lamp that is wired to the timer's output is not shown. TMOSEL makes P0D's bit 3 an output, and no more;
+ * - the count that source 000, 13.1.6 (2), may lose or gain when the timer is started, and STOP's reset of the count (table 15-1);
+ * - 23H and the registers of the comparator, the serial port and the interrupts: a program that touches them is refused with 30. */
+
+/* The input record: P0A to P0E, a nibble each, and the release bit. Its directions must be nibbles, and are not read: directions come
+ * from the control registers. It is the eleven bytes of a record in a station file, in
  * their order and with nothing between or after them: a record that was read may be copied to it as it is. */
 typedef struct {
     uint8_t pins[5];
@@ -126,13 +144,16 @@ typedef struct {
 
 pollwezen_machine pollwezen_reset(void);
 
-/* One step on the lent record. A refusal leaves it as it came. A run with a budget of 1 tells the step's cycles too. */
-uint8_t pollwezen_step(const uint16_t *rom, size_t words, pollwezen_machine *machine, pollwezen_input input);
+/* One step on the lent record. The pulse, 0 or 1, is the INT clock's: where the program chose that clock (TMCK 11), 1 is one pulse of
+ * the step. A refusal leaves the record as it came; a step that stays in STOP too, and one that stays in HALT moves the timer alone. A
+ * run with a budget of 1 tells the step's cycles too. */
+uint8_t pollwezen_step(const uint16_t *rom, size_t words, pollwezen_machine *machine, pollwezen_input input, uint8_t pulse);
 
-/* A counted run on the lent record, of 0 to 65,535 steps. It ends at a refusal, in standby or at the budget. A refused run
- * keeps the state of its completed steps and reports these. */
+/* A counted run on the lent record, of 0 to 65,535 steps, with one input and one pulse for all of them. It ends at a refusal, in
+ * standby or at the budget. A refused run keeps the state of its completed steps and reports these. A run that begins in standby at
+ * release 0 ends with one step that stays there, if its budget is not 0: it reports no steps, and in HALT the timer has moved. */
 pollwezen_run_reply pollwezen_run(const uint16_t *rom, size_t words, pollwezen_machine *machine, pollwezen_input input,
-                                  uint32_t budget);
+                                  uint8_t pulse, uint32_t budget);
 
 /* The check of a ROM and its sheet, one level a word. Refusals: 1 for the ROM's length, 9 for the sheet's. */
 pollwezen_verdict_reply pollwezen_verify(const uint16_t *rom, size_t words, const uint8_t *sheet, size_t entries);

@@ -13,6 +13,7 @@ void row_names(void);
 void files(void);
 void sizes(void);
 void records(void);
+void timers(void);
 void nulls(void);
 void stack_needs(void);
 

@@ -47,6 +47,12 @@ static void fields(unsigned i) {
     for (size_t n = 0; n < cells; n++) {
         PLACE(machines, pollwezen_machine, cells, n, n == 0 ? 2 : n + 1 == cells ? 3 : 1);
     }
+    for (size_t n = 0; n < COUNT(pollwezen_machine, registers); n++) {
+        PLACE(machines, pollwezen_machine, registers, n, 13 + n);
+    }
+    FIELD(machines, pollwezen_machine, modulo, 20);
+    FIELD(machines, pollwezen_machine, counter, 21);
+    FIELD(machines, pollwezen_machine, divider, 22);
     FIELD(machines, pollwezen_machine, pc, 4);
     for (size_t n = 0; n < COUNT(pollwezen_machine, stack); n++) {
         PLACE(machines, pollwezen_machine, stack, n, 5 + n);

@@ -69,7 +69,7 @@ static void of_step(void) {
     for (unsigned i = 0; i < 2 * 65536; i++) {
         word = (uint16_t)i;
         machine = states[i >> 16];
-        pollwezen_step(&word, 1, &machine, none);
+        pollwezen_step(&word, 1, &machine, none, 0);
     }
 }
 
@@ -78,7 +78,7 @@ static void of_run(void) {
     for (unsigned i = 0; i < 2 * 65536; i++) {
         word = (uint16_t)i;
         machine = states[i >> 16];
-        pollwezen_run(&word, 1, &machine, none, 2);
+        pollwezen_run(&word, 1, &machine, none, 0, 2);
     }
 }
 

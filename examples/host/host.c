@@ -4,16 +4,18 @@
 
 #include <stdio.h>
 
-/* P0A's bit 0 is a lamp. Between two changes of it the board idles until a counter has gone round. */
+/* P0A is made an output, and its bit 0 is a lamp. Between two changes of it the board idles until a counter has gone round. */
 static const uint16_t rom[] = {
-    0xAF01, /* 000  XOR 70,#1 */
-    0xE90D, /* 001  MOV 10,#D */
-    0x8101, /* 002  ADD 10,#1 */
-    0x4900, /* 003  SKE 10,#0 */
-    0x6002, /* 004  BR 002 */
-    0x6000, /* 005  BR 000 */
+    0xEF8F, /* 000  MOV 78,#F */
+    0x3B25, /* 001  POKE 35,WR */
+    0xAF01, /* 002  XOR 70,#1 */
+    0xE90D, /* 003  MOV 10,#D */
+    0x8101, /* 004  ADD 10,#1 */
+    0x4900, /* 005  SKE 10,#0 */
+    0x6004, /* 006  BR 004 */
+    0x6002, /* 007  BR 002 */
 };
-static const uint8_t sheet[] = {0, 0, 0, 0, 0, 0};
+static const uint8_t sheet[] = {0, 0, 0, 0, 0, 0, 0, 0};
 enum { WORDS = sizeof rom / sizeof rom[0] };
 
 static int stop(const char *what, unsigned number) {
@@ -28,9 +30,10 @@ int main(void) {
         return stop("the ROM does not pass with its sheet", verdict.number);
     }
     pollwezen_machine board = pollwezen_reset();
-    pollwezen_input input = {{0}, {15}, 0}; /* P0A is an output */
+    pollwezen_input input = {{0}, {0}, 0};
+    uint8_t pulse = 0; /* nothing drives the INT pin */
     for (int refresh = 0; refresh < 8; refresh++) {
-        pollwezen_run_reply ran = pollwezen_run(rom, WORDS, &board, input, 5);
+        pollwezen_run_reply ran = pollwezen_run(rom, WORDS, &board, input, pulse, 5);
         if (ran.number != POLLWEZEN_DONE) {
             return stop("refused", ran.number);
         }
