@@ -79,8 +79,8 @@ typedef struct {
  * - 23H and the registers of the comparator, the serial port and the interrupts: a program that touches them is refused with 30. */
 
 /* The input record: P0A to P0E, a nibble each, and the release bit. Its directions must be nibbles, and are not read: directions come
- * from the control registers. It is the eleven bytes of a record in a station file, in
- * their order and with nothing between or after them: a record that was read may be copied to it as it is. */
+ * from the control registers. It is the eleven bytes of a record in a station file, in their order and with nothing between or after
+ * them: a record that was read may be copied to it as it is. */
 typedef struct {
     uint8_t pins[5];
     uint8_t directions[5];
