@@ -139,11 +139,11 @@ pub(crate) fn execute(
             operations::peek(cells, pins, registers, rf);
             return Transfer::To(control::onward(regs, false));
         }
-        Instruction::Poke(rf) => {
-            if !peripherals::in_file(rf) {
+        Instruction::Poke(to) => {
+            if !peripherals::in_file(to) {
                 return Transfer::Refused(Refusal::NoRegister);
             }
-            operations::poke(cells, rf);
+            operations::poke(cells, to);
             return Transfer::To(control::onward(regs, false));
         }
         Instruction::Get(p) => {

@@ -229,15 +229,16 @@ module _ (chip : Chip) (rom : List ℕ) (signals : Signals) where
   unfolding executeOf
   replied i m = answered (eqb (transferBy chip rom signals i m .refusal) 0) (pastTable rom (arOf (cellsOf m)) (flowOf i)) _ m _
 
-  module _ (i : Instruction) (m : Machine) (others : List ℕ) (p : Peripherals) (h : Agree chip signals i m (machineOf others p (m .control))) where
+module _ (chip : Chip) (rom : List ℕ) (s t : Signals) where
+  module _ (i : Instruction) (m : Machine) (others : List ℕ) (p : Peripherals) (h : Agree chip s t i m (machineOf others p (m .control))) where
     abbrev n : Machine
     n = machineOf others p (m .control)
 
     abbrev f : Data
-    f = dataOf m signals
+    f = dataOf m s
 
     abbrev g : Data
-    g = dataOf n signals
+    g = dataOf n t
 
     to-found : addressIn chip f (operandsOf i .to) ≡ addressIn chip g (operandsOf i .to)
     to-found = operand-same chip f g (operandsOf i .to) (h .to) (h .to-pointer)
@@ -257,19 +258,19 @@ module _ (chip : Chip) (rom : List ℕ) (signals : Signals) where
     unfolding holdsOf
     holds = likened .1 .0 ∙ ap (λ (a : Addresses). holdsAt chip g a i) found
 
-    transfer : transferBy chip rom signals i m ≡ transferBy chip rom signals i n
+    transfer : transferBy chip rom s i m ≡ transferBy chip rom t i n
     unfolding transferBy
     transfer = likened .1 .1 .0 (holdsOf chip f i) ∙ ap (λ (b : Bool). controlOf chip (flowOf i) b (arOf others) (m .control)) holds
 
-    writes : writesBy chip rom signals i m ≡ writesBy chip rom signals i n
+    writes : writesBy chip rom s i m ≡ writesBy chip rom t i n
     unfolding writesOf
     writes = likened .0 ∙ ap (λ (a : Addresses). writesAt chip g a i (sourcesOf rom n)) found
 
-  pub read-law : ReadLaw chip rom signals
+  pub read-law : ReadLaw chip rom s t
   read-law i m others p h = record {
     writes = writes i m others p h;
     settings = settings-same (cellsOf m) others i (h .implied);
     holds = holds i m others p h;
     transfer = transfer i m others p h;
-    reply = replied i m ∙ ap₂ answerBy (ap (λ (t : Transfer). t .refusal) (transfer i m others p h)) (likened i m others p h .1 .1 .1) ∙ sym (replied i _);
+    reply = replied chip rom s i m ∙ ap₂ answerBy (ap (λ (t : Transfer). t .refusal) (transfer i m others p h)) (likened i m others p h .1 .1 .1) ∙ sym (replied chip rom t i _);
   }

@@ -7,3 +7,4 @@ pub mod AnswersApart
 pub mod Written
 pub mod Depends
 pub mod Times
+pub mod Directions

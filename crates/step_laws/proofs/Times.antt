@@ -1,12 +1,12 @@
 -- From reset the timer moves by the cycles of the steps, while nothing is written to it.
 -- Assumes nothing.
-use mathlib.Core.Path.{_≡_, _∙_, ap, refl, subst}
-use mathlib.Core.Bool.{Bool, true, false, cond, not}
+use mathlib.Core.Path.{_≡_, _∙_, ap, refl, subst, sym}
+use mathlib.Core.Bool.{Bool, true, false, cond, not, _&&_, false≢true}
 use lib.Bits.{bitAnd}
 use Rattle.laws.specs.Bit.{bit}
 use Rattle.peripherals.specs.Timer.{clockOf, comesOf}
 use mathlib.Core.List.{List, [], _∷_}
-use Prim.Native.Nat.{ℕ, _+_, _/_, _%_}
+use Prim.Native.Nat.{ℕ, zero, suc, _+_, _/_, _%_, _<_}
 use native.Mathlib.Nat.{add-zero, zero-add, add-assoc}
 use native.Mathlib.Omega.{arith}
 use lib.Dec.{eqb, lit≤}
@@ -29,11 +29,16 @@ use Rattle.peripherals.proofs.Since.{reset-laws}
 use Rattle.operations.proofs.Sets.{sets}
 use Rattle.operations.specs.Settings.{settingsOf}
 use Rattle.cpu.specs.Cycles.{nextCycles}
-use Rattle.cpu.specs.Reply.{done, inStandby, refused, Step}
-use Rattle.cpu.specs.Step.{tickedBy, stoodBy, stepOf}
+use Rattle.cpu.specs.Cost.{none, plus, costOf}
+use Rattle.cpu.specs.Reply.{Reply, done, inStandby, refused, Step}
+use Rattle.cpu.specs.Run.{Run, ended, afterStep, runFrom, runOf}
+use Rattle.cpu.specs.Step.{isStanding, waits, tickedBy, stoodBy, stepOf}
+use Rattle.cpu.specs.declared.Count.{Count}
+use Rattle.machine.specs.Ranges.{allInRange, budgetInRange}
+use Rattle.laws.proofs.Booleans.{either}
 use Rattle.cpu.proofs.Costs.{cycles-few}
 use Rattle.step_laws.specs.TimeLaws.{movedBy, afterSteps, cyclesIn, pulseOf, pulsesBy, pulsesIn, LeavesTimer, AllLeaveTimer, TimeLaws, TickPhase}
-use Rattle.step_laws.proofs.Steps.{stepped}
+use Rattle.step_laws.proofs.Steps.{stays, stepped}
 
 -- neither POKE 11H nor PUT
 abbrev Leaves : Instruction → Type 0
@@ -161,8 +166,45 @@ module _ (chip : Chip) (rom : List ℕ) where
   counted ss m on e a =
       rw zero-add at (all-count _ _ on ss m 0 (record { same-mode = refl; same-modulo = refl; counter = e }) a) .counter
 
+  -- the divider after a run, from a number x that it had before
+  module _ (s : Signals) (x : ℕ) where
+    abbrev Timed : Run → Type 0
+    Timed r = r .machine .peripherals .divider ≡ (x + r .count .cycles) % 128
+
+    or-on : (b : Bool) (sum : Count) (after : Machine) (rest : Run) → Timed (ended sum 0 after) → (b ≡ false → Timed rest)
+        → Timed (cond b (ended sum 0 after) rest)
+    or-on true sum after rest h k = h
+    or-on false sum after rest h k = k refl
+
+    by-reply : (reply : Reply) (count : Count) (m after : Machine) (rest : Run) → (reply ≡ inStandby → ⊥)
+        → after .peripherals .divider ≡ (x + count .cycles + movedBy chip rom m reply) % 128
+        → (isStanding after ≡ false → after .peripherals .divider ≡ (x + plus count (costOf (nextCycles rom m) reply) .cycles) % 128 → Timed rest)
+        → Timed (afterStep (plus count (costOf (nextCycles rom m) reply)) after reply rest)
+    by-reply done count m after rest n h k =
+        let e : after .peripherals .divider ≡ (x + (count .cycles + nextCycles rom m)) % 128 = h ∙ ap (λ (c : ℕ). c % 128) (add-assoc x (count .cycles) (nextCycles rom m)) in
+        or-on (isStanding after) (plus count (costOf (nextCycles rom m) done)) after rest e (λ b. k b e)
+    by-reply inStandby count m after rest n h k = absurd (n refl)
+    by-reply (refused q) count m after rest n h k = h ∙ ap (λ (c : ℕ). c % 128) (add-assoc x (count .cycles) 0)
+
+    run-timed : (left : ℕ) (count : Count) (m : Machine) → waits chip rom s m ≡ false → m .peripherals .divider ≡ (x + count .cycles) % 128
+        → Timed (runFrom chip rom s left count m)
+    unfolding runFrom
+    run-timed zero count m w h = h
+    run-timed (suc left) count m w h =
+        by-reply (stepOf chip rom s m .reply) count m (stepOf chip rom s m .machine) _ (λ e. false≢true (sym w ∙ stays chip rom s m e))
+        (turns s m (x + count .cycles) h)
+        (λ b e. run-timed left _ (stepOf chip rom s m .machine) (rw b) e)
+
+  run : (s : Signals) (m : Machine) (budget : ℕ) → m .peripherals .divider < 128 → waits chip rom s m ≡ false
+      → runOf chip rom s budget m .machine .peripherals .divider ≡ (m .peripherals .divider + runOf chip rom s budget m .count .cycles) % 128
+  unfolding runOf
+  run s m budget l w =
+      let h : m .peripherals .divider ≡ (m .peripherals .divider + 0) % 128 = omega (arith, l) in
+      either (Timed s (m .peripherals .divider)) (allInRange chip rom m s && budgetInRange budget) _ (ended none 1 m)
+      (run-timed s (m .peripherals .divider) budget none m w h) h
+
   pub time-laws : TimeLaws chip rom
-  time-laws = record { counted = counted; step = λ s m cycles leaves h. step s m cycles h leaves; counter = counter; divider = divider }
+  time-laws = record { run = run; counted = counted; step = λ s m cycles leaves h. step s m cycles h leaves; counter = counter; divider = divider }
 
 pub tick-phase : (cycles pulse : ℕ) (m : Machine) → TickPhase cycles pulse m
 tick-phase cycles pulse m = record { cells = refl; control = refl }

@@ -2,6 +2,7 @@ pub mod RangeLaws
 pub mod StepLaws
 pub mod RunLaws
 pub mod ReadLaw
+pub mod DirectionLaws
 pub mod WrittenCells
 pub mod TimeLaws
 pub mod Cases

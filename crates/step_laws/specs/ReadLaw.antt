@@ -55,28 +55,31 @@ module _ (chip : Chip) (d e : Data) where
   Pointed (indirect m r) = ReadAlike (addressIn chip d (register r))
   Pointed (file rf) = Unit
 
--- two machines agree at what an instruction goes by: what the addresses of its operands go by, what it reads there, and what it implies
-pub record Agree (chip : Chip) (signals : Signals) (i : Instruction) (m n : Machine) : Type 0 where
+-- two machines agree at what an instruction goes by: what the addresses of its operands go by, what it reads there, each with its own
+-- signals, and what it implies
+pub record Agree (chip : Chip) (s t : Signals) (i : Instruction) (m n : Machine) : Type 0 where
   pub to : AgreeAt (addressedBy (operandsOf i .to)) (cellsOf m) (cellsOf n)
   pub from : AgreeAt (addressedBy (operandsOf i .from)) (cellsOf m) (cellsOf n)
-  pub to-pointer : Pointed chip (dataOf m signals) (dataOf n signals) (operandsOf i .to)
-  pub from-pointer : Pointed chip (dataOf m signals) (dataOf n signals) (operandsOf i .from)
-  pub source : ReadAlike chip (dataOf m signals) (dataOf n signals) (addressIn chip (dataOf m signals) (operandsOf i .from))
-  pub result : ReadsResult i → ReadAlike chip (dataOf m signals) (dataOf n signals) (addressIn chip (dataOf m signals) (operandsOf i .to))
+  pub to-pointer : Pointed chip (dataOf m s) (dataOf n t) (operandsOf i .to)
+  pub from-pointer : Pointed chip (dataOf m s) (dataOf n t) (operandsOf i .from)
+  pub source : ReadAlike chip (dataOf m s) (dataOf n t) (addressIn chip (dataOf m s) (operandsOf i .from))
+  pub result : ReadsResult i → ReadAlike chip (dataOf m s) (dataOf n t) (addressIn chip (dataOf m s) (operandsOf i .to))
   pub implied : AgreeAt (operandsOf i .implied) (cellsOf m) (cellsOf n)
-  pub peeked : (rf : ℕ) → i ≡ Peek rf → fileAt chip (dataOf m signals) rf ≡ fileAt chip (dataOf n signals) rf
+  pub peeked : (rf : ℕ) → i ≡ Peek rf → fileAt chip (dataOf m s) rf ≡ fileAt chip (dataOf n t) rf
   pub got : (p : ℕ) → i ≡ Get p → m .peripherals .counter ≡ n .peripherals .counter
 
-module _ (chip : Chip) (rom : List ℕ) (signals : Signals) where
+module _ (chip : Chip) (rom : List ℕ) (s t : Signals) where
   -- the same writes and settings, the same condition, the same transfer of control and the same answer
   pub record Same (i : Instruction) (m n : Machine) : Type 0 where
-    pub writes : writesBy chip rom signals i m ≡ writesBy chip rom signals i n
+    pub writes : writesBy chip rom s i m ≡ writesBy chip rom t i n
     pub settings : (p : Peripherals) → settingsOf (cellsOf m) p i ≡ settingsOf (cellsOf n) p i
-    pub holds : holdsOf chip (dataOf m signals) i ≡ holdsOf chip (dataOf n signals) i
-    pub transfer : transferBy chip rom signals i m ≡ transferBy chip rom signals i n
-    pub reply : executeOf chip rom signals i m .reply ≡ executeOf chip rom signals i n .reply
+    pub holds : holdsOf chip (dataOf m s) i ≡ holdsOf chip (dataOf n t) i
+    pub transfer : transferBy chip rom s i m ≡ transferBy chip rom t i n
+    pub reply : executeOf chip rom s i m .reply ≡ executeOf chip rom t i n .reply
 
+  -- whatever else the two differ in: other cells, other peripherals, and of the signals the directions, the release, the pulse, and the
+  -- pins that are not read
   abbrev pub ReadLaw : Type 0
   ReadLaw =
       (i : Instruction) (m : Machine) (others : List ℕ) (p : Peripherals)
-      → Agree chip signals i m (machineOf others p (m .control)) → Same i m (machineOf others p (m .control))
+      → Agree chip s t i m (machineOf others p (m .control)) → Same i m (machineOf others p (m .control))

@@ -3,7 +3,7 @@
 use mathlib.Core.Path.{_≡_}
 use mathlib.Core.Bool.{true, false, cond}
 use mathlib.Core.List.{List, [], _∷_}
-use Prim.Native.Nat.{ℕ, _+_, _/_, _%_}
+use Prim.Native.Nat.{ℕ, _+_, _/_, _%_, _<_}
 use lib.Dec.{eqb}
 use lib.ListN.{getD}
 use Rattle.laws.specs.Bit.{bit}
@@ -21,7 +21,8 @@ use Rattle.peripherals.specs.Timer.{clockOf, comesOf}
 use Rattle.peripherals.specs.TimerLaws.{Since, pulsed}
 use Rattle.cpu.specs.Cycles.{nextCycles}
 use Rattle.cpu.specs.Reply.{Reply, done, inStandby, refused}
-use Rattle.cpu.specs.Step.{stepOf, tickedBy}
+use Rattle.cpu.specs.Run.{runOf}
+use Rattle.cpu.specs.Step.{waits, stepOf, tickedBy}
 
 module _ (chip : Chip) (rom : List ℕ) where
   -- the cycles that the timer moves by in a step: those of a completed one, and one in a standing step in HALT
@@ -74,6 +75,9 @@ module _ (chip : Chip) (rom : List ℕ) where
     -- with TMEN 1 from counter 0, while none of them is POKE 11H or PUT: the counter counts the pulses (which is a match: MatchLaws)
     pub counted : (ss : List Signals) (m : Machine) → isOn (m .peripherals .registers) TM TMEN ≡ true → m .peripherals .counter ≡ 0
         → AllLeaveTimer ss m → afterSteps ss m .peripherals .counter ≡ pulsed (m .peripherals .modulo) (pulsesIn ss m)
+    -- a run moves the divider by the cycles that it reports, refused or not, where it does not begin standing at release 0 (RunLaws.standing)
+    pub run : (s : Signals) (m : Machine) (budget : ℕ) → m .peripherals .divider < 128 → waits chip rom s m ≡ false
+        → runOf chip rom s budget m .machine .peripherals .divider ≡ (m .peripherals .divider + runOf chip rom s budget m .count .cycles) % 128
 
 -- the tick touches no cell and no control
 pub record TickPhase (cycles pulse : ℕ) (m : Machine) : Type 0 where
