@@ -183,7 +183,7 @@ module _ (chip : Chip) (rom sheet : List ℕ) where
       closes : counted (Returns skip) t .returns + (d - 1) ≡ counted (Returns skip) t .calls
       closes = omega (arith, p .opened, some-open)
 
-      returns : Kept (returnOf chip skip c) (counted (Returns skip) t)
+      returns : Kept (returnOf skip c) (counted (Returns skip) t)
       unfolding returnOf
       returns =
           let back : Back (topOf c) (d - 1) = p .stacked (d - 1) (omega (arith, some-open)) in

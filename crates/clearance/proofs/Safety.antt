@@ -3,15 +3,19 @@
 use mathlib.Core.Path.{_≡_, _∙_, ap, refl, sym, subst}
 use mathlib.Core.Bool.{Bool, true, false, _&&_, cond, and-true, false≢true}
 use mathlib.Core.List.{List, [], _∷_}
-use mathlib.Core.Logic.{inl, inr}
-use Prim.Native.Nat.{ℕ, zero, suc, _+_, _<_, _≤_}
+use mathlib.Core.Logic.{_⊎_, inl, inr, ⊎-elim}
+use Prim.Native.Nat.{ℕ, zero, suc, _+_, _^_, _<_, _≤_}
 use native.Mathlib.Nat.{not-suc-le-zero}
 use native.Mathlib.Omega.{arith}
 use borrow.Author.Tests.{ltb-true, leb-true, le-leb}
-use lib.Dec.{lit≤, lit<}
+use lib.Dec.{lit≤}
 use lib.ListN.{length}
 use Rattle.laws.proofs.Booleans.{both}
-use Rattle.memory.specs.Chip.{Chip, upd17132, masks17132}
+use Rattle.memory.specs.Chip.{Chip, chipOf, isWhole, subseriesMasks}
+use Rattle.memory.specs.Registers.{arOf}
+use Rattle.memory.specs.declared.Model.{Model}
+use Rattle.memory.specs.declared.Model.the-variants.{Upd17132, Upd17120}
+use Rattle.memory.proofs.Numbers.{levels-fit, some-level, words-fit}
 use Rattle.memory.specs.Range.{cellsInRange}
 use Rattle.memory.specs.Write.{keptOf}
 use Rattle.machine.specs.Parts.{isMarked, resetMachine}
@@ -35,7 +39,7 @@ use Rattle.clearance.specs.Rules.{EveryRule, flowAt, rule1, ruleOf}
 use Rattle.clearance.specs.Safe.{Moment, Allowed, Within, During, Good, Safe}
 use Rattle.clearance.proofs.Paths.{OnPath}
 use Rattle.clearance.proofs.Ruled.{Cleared, Stands}
-use Rattle.clearance.proofs.Steps.{Fair, stepped}
+use Rattle.clearance.proofs.Steps.{Fair, MayMiss, stepped}
 use Rattle.clearance.proofs.Walks.{Stage, oneStep, walk, onFrom, nothing-left, more, goes-on, stops, first-step, spent, reaches}
 
 module _ (chip : Chip) (rom sheet : List ℕ) (g : Cleared chip rom sheet) where
@@ -81,7 +85,7 @@ module _ (chip : Chip) (rom sheet : List ℕ) (g : Cleared chip rom sheet) where
         pub count : ℕ
         pub few : count ≤ left
         pub counted : (runFrom chip rom i left c (s .machine)) .count .steps ≡ c .steps + count
-        pub answered : (runFrom chip rom i left c (s .machine)) .refusal ≡ 0
+        pub answered : MayMiss chip ((runFrom chip rom i left c (s .machine)) .refusal)
         pub after : Inv ((runFrom chip rom i left c (s .machine)) .machine) ((walk chip rom i count s) .tally)
 
       ends : (left : ℕ) (c : Count) (s : Stage chip rom i) (b : Bool) → onFrom chip rom i (s .machine) ≡ b → Holds s → Ends left c s
@@ -91,7 +95,7 @@ module _ (chip : Chip) (rom sheet : List ℕ) (g : Cleared chip rom sheet) where
             count = 0;
             few = omega arith;
             counted = ap (λ (r : Run). r .count .steps) q ∙ omega arith;
-            answered = ap (λ (r : Run). r .refusal) q;
+            answered = inl (ap (λ (r : Run). r .refusal) q);
             after = rw q v;
           }
       ends (suc l) c s true e v =
@@ -101,7 +105,7 @@ module _ (chip : Chip) (rom sheet : List ℕ) (g : Cleared chip rom sheet) where
             count = suc (x .count);
             few = omega (arith, x .few);
             counted = ap (λ (r : Run). r .count .steps) q ∙ omega (arith, x .counted);
-            answered = ap (λ (r : Run). r .refusal) q ∙ x .answered;
+            answered = subst (λ (r : Run). MayMiss chip (r .refusal)) (sym q) (x .answered);
             after = rw q (subst (Inv _) (ap (λ (y : Stage chip rom i). y .tally) (sym (first-step chip rom i (x .count) s))) (x .after));
           }
       ends (suc l) c s false e v =
@@ -110,7 +114,7 @@ module _ (chip : Chip) (rom sheet : List ℕ) (g : Cleared chip rom sheet) where
             count = stepCost chip rom i (s .machine) .steps;
             few = omega (arith, cost-below ((S (s .machine)) .reply) (nextCycles rom (s .machine)));
             counted = ap (λ (r : Run). r .count .steps) q;
-            answered = ap (λ (r : Run). r .refusal) q ∙ fair (s .machine) (s .tally) v .answered;
+            answered = subst (λ (r : Run). MayMiss chip (r .refusal)) (sym q) (fair (s .machine) (s .tally) v .answered);
             after = rw (q, ← spent chip rom i s ((S (s .machine)) .reply) (nextCycles rom (s .machine)) refl) (kept-by-step s v);
           }
 
@@ -129,8 +133,8 @@ module _ (chip : Chip) (rom sheet : List ℕ) (g : Cleared chip rom sheet) where
         whole-run : runOf chip rom i budget m ≡ runFrom chip rom i budget none m
         whole-run = runs budget (omega arith)
 
-        unrefused : (runOf chip rom i budget m) .refusal ≡ 0
-        unrefused = ap (λ (r : Run). r .refusal) whole-run ∙ ending .answered
+        ended-so : MayMiss chip ((runOf chip rom i budget m) .refusal)
+        ended-so = subst (λ (r : Run). MayMiss chip (r .refusal)) (sym whole-run) (ending .answered)
 
         completed : (runOf chip rom i budget m) .count .steps ≡ ending .count
         completed = ap (λ (r : Run). r .count .steps) whole-run ∙ omega (arith, ending .counted)
@@ -166,15 +170,29 @@ module _ (chip : Chip) (rom sheet : List ℕ) (g : Cleared chip rom sheet) where
     pub during : During chip rom sheet k m t
     pub after : Inv (leftBy chip rom k m) (tallyAfter chip rom k m t)
 
-  answered-call : (k : HostCall) (m : Machine) → refusalAt chip rom k m ≡ 0 → Allowed chip rom sheet k m
-  answered-call k m a = record { answered = λ _. a; onlyOne = inl a }
+  never : (n : ℕ) → MayMiss chip n → isWhole chip ≡ true → n ≡ 0
+  never n a w = ⊎-elim (λ e. e) (λ (f : (n ≡ 31) × (isWhole chip ≡ false)). absurd (false≢true (sym (f .1) ∙ w))) a
+
+  or-missing : (n : ℕ) → MayMiss chip n → (n ≡ 0) ⊎ (n ≡ 31)
+  or-missing n a = ⊎-elim (λ e. inl e) (λ (f : (n ≡ 31) × (isWhole chip ≡ false)). inr (f .0)) a
+
+  answered-call : (k : HostCall) (m : Machine) → ownInRange k ≡ true → MayMiss chip (refusalAt chip rom k m) → Allowed chip rom sheet k m
+  answered-call k m h a = record {
+    answered = λ _ w. never (refusalAt chip rom k m) a w;
+    missing = λ _. or-missing (refusalAt chip rom k m) a;
+    onlyOne = λ q. absurd (false≢true (sym q ∙ h));
+  }
 
   refused-call : (k : HostCall) (m : Machine) → ownInRange k ≡ false → refusalAt chip rom k m ≡ 1 → Allowed chip rom sheet k m
-  refused-call k m h a = record { answered = λ q. absurd (false≢true (sym h ∙ q)); onlyOne = inr a }
+  refused-call k m h a = record {
+    answered = λ q w. absurd (false≢true (sym h ∙ q));
+    missing = λ q. absurd (false≢true (sym h ∙ q));
+    onlyOne = λ q. a;
+  }
 
   by-step : (form : CallForm) (i : Signals) (m : Machine) (t : Tally) → Inv m t → (b : Bool) → signalsInRange i ≡ b → Called (step form i) m t
   by-step form i m t v true h = record {
-    allowed = answered-call (step form i) m (fair i h m t v .answered);
+    allowed = answered-call (step form i) m h (fair i h m t v .answered);
     during = tt;
     after = kept-by-step i h (record { machine = m; tally = t }) v;
   }
@@ -192,7 +210,7 @@ module _ (chip : Chip) (rom sheet : List ℕ) (g : Cleared chip rom sheet) where
   by-run form i budget m t v true h =
       let p = both (signalsInRange i) (budgetInRange budget) h in
       record {
-        allowed = answered-call (run form i budget) m (unrefused i (p .0) budget (p .1) m t v);
+        allowed = answered-call (run form i budget) m h (ended-so i (p .0) budget (p .1) m t v);
         during = within i (p .0) budget (p .1) m t v;
         after = ran i (p .0) budget (p .1) m t v;
       }
@@ -217,30 +235,42 @@ module _ (chip : Chip) (rom sheet : List ℕ) (g : Cleared chip rom sheet) where
       (moment m t v, (x .allowed, (x .during, good ks (leftBy chip rom k m) (tallyAfter chip rom k m t) (x .after))))
 
 -- reset begins at word 0 with no open call
-starts : (rom sheet : List ℕ) → 0 < length rom → EveryRule upd17132 rom sheet → Stands upd17132 rom sheet 0 0
+starts : (chip : Chip) (rom sheet : List ℕ) → 0 < length rom → EveryRule chip rom sheet → Stands chip rom sheet 0 0
 unfolding ruleOf rule1
-starts rom sheet h every = record { inside = h; level = every 0 1 h (lit≤ tt) (lit≤ tt) }
+starts chip rom sheet h every = record { inside = h; level = every 0 1 h (lit≤ tt) (lit≤ tt) }
+
+-- reset is in range on every model
+reset-ranged : (model : Model) → machineInRange (chipOf model) resetMachine ≡ true
+unfolding machineInRange cellsInRange keptOf subseriesMasks controlInRange marksInRange
+reset-ranged Upd17132 = peripheral-laws resetPeripherals .start
+reset-ranged Upd17120 = peripheral-laws resetPeripherals .start
+
+-- a ROM of 1,024 words is a whole table: AR has ten bits
+tables : (model : Model) (cells : List ℕ) → cellsInRange (chipOf model) cells ≡ true → arOf cells < 2 ^ 10
+tables Upd17132 cells e = ar-fits Upd17132 cells e
+tables Upd17120 cells e = ar-fits Upd17120 cells e
 
 -- the theorem: where every rule holds, every list of calls from reset is good
-pub safe : (rom sheet : List ℕ) → romInRange upd17132 rom ≡ true → EveryRule upd17132 rom sheet → Safe upd17132 rom sheet
-unfolding machineInRange cellsInRange keptOf masks17132 controlInRange marksInRange romInRange
-safe rom sheet whole every calls =
+pub safe : (model : Model) (rom sheet : List ℕ) → romInRange (chipOf model) rom ≡ true → EveryRule (chipOf model) rom sheet
+    → Safe (chipOf model) rom sheet
+unfolding romInRange
+safe model rom sheet whole every calls =
     let p = both _ _ whole in
-    let g : Cleared upd17132 rom sheet = record {
-      small = lit≤ tt;
-      some = lit< tt;
-      addresses = ar-fits;
-      table = ar-fits;
+    let g : Cleared (chipOf model) rom sheet = record {
+      small = levels-fit model;
+      some = some-level model;
+      addresses = ar-fits model;
+      table = tables model;
       whole = whole;
-      short = leb-true (length rom) 1024 (p .1);
+      short = omega (arith, leb-true (length rom) (chipOf model .words) (p .1), words-fit model);
       every = every;
     } in
-    good upd17132 rom sheet g calls resetMachine noCalls
+    good (chipOf model) rom sheet g calls resetMachine noCalls
     (record {
-      ranged = peripheral-laws resetPeripherals .start;
+      ranged = reset-ranged model;
       path = record {
         places = refl;
-        here = starts rom sheet (ltb-true 0 (length rom) (p .0)) every;
+        here = starts (chipOf model) rom sheet (ltb-true 0 (length rom) (p .0)) every;
         opened = refl;
         skipping = λ x. absurd (false≢true x);
         stacked = λ k h. absurd (not-suc-le-zero h);

@@ -1,14 +1,14 @@
 -- Demand 3: whatever list of calls is made on a passed ROM from reset, no call is refused that has its own inputs and budget
 -- in range, none with a number other than 1, and at every moment the word about to run lies in the ROM and the open calls
--- are its level.
+-- are its level. On a chip that lacks cells a call may also be refused with 31, and the moments hold then too (document 02, E1).
 -- Assumes nothing.
 use mathlib.Core.Path.{_≡_}
-use mathlib.Core.Bool.{true}
+use mathlib.Core.Bool.{true, false}
 use mathlib.Core.List.{List, [], _∷_}
 use mathlib.Core.Logic.{_⊎_}
 use Prim.Native.Nat.{ℕ, _+_, _<_, _≤_}
 use lib.ListN.{length}
-use Rattle.memory.specs.Chip.{Chip}
+use Rattle.memory.specs.Chip.{Chip, isWhole}
 use Rattle.machine.specs.Parts.{resetMachine}
 use Rattle.cpu.specs.Run.{runOf}
 use Rattle.machine.specs.Signals.{Signals}
@@ -24,10 +24,12 @@ module _ (chip : Chip) (rom sheet : List ℕ) where
     pub opened : t .returns + m .control .levels ≡ t .calls
     pub level : holds (chip .levels) (entryAt sheet (m .control .pc)) (m .control .levels) ≡ true
 
-  -- a call that has its own inputs and budget in range is not refused, and no call with a number other than 1
+  -- a call that has its own inputs and budget in range is not refused; where the chip lacks cells it may be, with 31 alone; one that
+  -- has them out of range is refused with 1
   pub record Allowed (c : HostCall) (m : Machine) : Type 0 where
-    pub answered : ownInRange c ≡ true → refusalAt chip rom c m ≡ 0
-    pub onlyOne : (refusalAt chip rom c m ≡ 0) ⊎ (refusalAt chip rom c m ≡ 1)
+    pub answered : ownInRange c ≡ true → isWhole chip ≡ true → refusalAt chip rom c m ≡ 0
+    pub missing : ownInRange c ≡ true → (refusalAt chip rom c m ≡ 0) ⊎ (refusalAt chip rom c m ≡ 31)
+    pub onlyOne : ownInRange c ≡ false → refusalAt chip rom c m ≡ 1
 
   -- before every step inside a run, and after its last: however many steps it has completed, the record is the one that a
   -- run of so many steps leaves. A run that begins in HALT completes none and moves the timer: its record is the next moment's

@@ -26,7 +26,7 @@ module _ (chip : Chip) (c : Control) where
   full : (after : Control) → Keeps c (unlessFull chip c after)
   full after = either (Keeps c) (leb (chip .levels) (c .levels)) (refusedControl 6 c) (goes after) (kept 6 c) (gone c after)
 
-  empty : (after : Control) → Keeps c (unlessEmpty chip c after)
+  empty : (after : Control) → Keeps c (unlessEmpty c after)
   empty after = either (Keeps c) (eqb (c .levels) 0) (refusedControl 7 c) (goes after) (kept 7 c) (gone c after)
 
   reached : (to : ℕ) (s : Transfer) → Keeps c s → Keeps c (inReach chip to c s)

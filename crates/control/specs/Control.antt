@@ -56,6 +56,14 @@ topOf c = getD (c .stack) (c .levels - 1) 0
 abbrev pub popped : Control → Control
 popped c = record { pc = c .pc; stack = set (c .stack) (c .levels - 1) 0; levels = c .levels - 1; skip = c .skip; standby = c .standby }
 
+-- refusal 7: stack empty
+abbrev pub unlessEmpty : Control → Control → Transfer
+unlessEmpty c after = cond (eqb (c .levels) 0) (refusedControl 7 c) (goes after)
+
+-- RET goes back, and RETSK with the skip mark set
+unfoldable pub returnOf : Bool → Control → Transfer
+returnOf skip c = unlessEmpty c (withSkip skip (jumpTo (topOf c) (popped c)))
+
 module _ (chip : Chip) where
   -- "Next" is PC + 1, 0 after the last
   abbrev pub nextOf : ℕ → ℕ
@@ -67,10 +75,6 @@ module _ (chip : Chip) where
   -- refusal 6: stack full
   abbrev pub unlessFull : Control → Control → Transfer
   unlessFull c after = cond (leb (chip .levels) (c .levels)) (refusedControl 6 c) (goes after)
-
-  -- refusal 7: stack empty
-  abbrev pub unlessEmpty : Control → Control → Transfer
-  unlessEmpty c after = cond (eqb (c .levels) 0) (refusedControl 7 c) (goes after)
 
   -- refusal 5: BR or CALL address of 1,024 or more, tried before the stack
   abbrev pub inReach : ℕ → Control → Transfer → Transfer
@@ -87,10 +91,6 @@ module _ (chip : Chip) where
   -- CALL and CALL @AR stack the next PC
   unfoldable pub callOf : ℕ → Control → Transfer
   callOf to c = unlessFull c (jumpTo to (pushed (nextOf (c .pc)) c))
-
-  -- RET goes back, and RETSK with the skip mark set
-  unfoldable pub returnOf : Bool → Control → Transfer
-  returnOf skip c = unlessEmpty c (withSkip skip (jumpTo (topOf c) (popped c)))
 
   -- MOVT needs one free level, given back at once
   unfoldable pub tableOf : Control → Transfer

@@ -6,10 +6,11 @@ mod words;
 ghost use mathlib.Core.Path.{_≡_};
 ghost use mathlib.Core.List.{List};
 ghost use Prim.Native.Nat.{ℕ};
-ghost use Rattle.memory.specs.Chip.{upd17132};
+ghost use Rattle.memory.specs.Chip.{chipOf};
 ghost use Rattle.control.specs.Control.{goes, nextOf, jumpTo, branchOf, callOf, returnOf, pushOf, popOf, tableOf, standbyOf, onwardOf, inReach, topOf};
 ghost use Rattle.control.specs.Transfers.{transferOf, withStack};
 use machine::Refusal;
+use memory::Model;
 use stack::address_on;
 use stack::clear;
 pub use words::of_word;
@@ -48,11 +49,11 @@ pub enum Flow {
     Refused(u8),
 }
 
-// One more, and 0 after 1,023: the PC, a counter of ten bits.
-pub fn next(pc: u16) -> u16
-    ensures { λ r. ⌜ r ≡ nextOf upd17132 pc ⌝ }
+// One more, and 0 after the last address: the PC, a counter of the chip's bits.
+pub fn next(model: Model, pc: u16) -> u16
+    ensures { λ r. ⌜ r ≡ nextOf (chipOf model) pc ⌝ }
 {
-    std::num::wrapping_add_u16(pc, 1) % 1024
+    std::num::wrapping_add_u16(pc, 1) % model.addresses()
 }
 
 // The control without its stack.
@@ -70,11 +71,11 @@ pub enum Transfer {
 }
 
 // To the next word, with the skip mark set or not.
-pub fn onward(regs: Regs, skips: bool) -> Regs
-    ensures { λ r. ⌜ ((stack : List ℕ) → goes (withStack stack r) ≡ onwardOf upd17132 skips (withStack stack regs)) ⌝ }
+pub fn onward(model: Model, regs: Regs, skips: bool) -> Regs
+    ensures { λ r. ⌜ ((stack : List ℕ) → goes (withStack stack r) ≡ onwardOf (chipOf model) skips (withStack stack regs)) ⌝ }
 {
     Regs {
-        pc: next(regs.pc),
+        pc: next(model, regs.pc),
         levels: regs.levels,
         skip: skips as u8,
         standby: regs.standby,
@@ -82,11 +83,11 @@ pub fn onward(regs: Regs, skips: bool) -> Regs
 }
 
 // HALT and STOP, each with its mark.
-pub fn stand(regs: Regs, mark: u8) -> Regs
-    ensures { λ r. ⌜ ((stack : List ℕ) → goes (withStack stack r) ≡ standbyOf upd17132 mark (withStack stack regs)) ⌝ }
+pub fn stand(model: Model, regs: Regs, mark: u8) -> Regs
+    ensures { λ r. ⌜ ((stack : List ℕ) → goes (withStack stack r) ≡ standbyOf (chipOf model) mark (withStack stack regs)) ⌝ }
 {
     Regs {
-        pc: next(regs.pc),
+        pc: next(model, regs.pc),
         levels: regs.levels,
         skip: regs.skip,
         standby: mark,
@@ -106,24 +107,24 @@ pub fn jump(regs: Regs, to: u16) -> Regs
 }
 
 // BR.
-pub fn branch(regs: Regs, to: u16) -> Transfer
-    ensures { λ r. ⌜ ((stack : List ℕ) → transferOf stack regs r ≡ branchOf upd17132 to (withStack stack regs)) ⌝ }
+pub fn branch(model: Model, regs: Regs, to: u16) -> Transfer
+    ensures { λ r. ⌜ ((stack : List ℕ) → transferOf stack regs r ≡ branchOf (chipOf model) to (withStack stack regs)) ⌝ }
 {
-    if 1024 <= to {
+    if model.addresses() <= to {
         return Transfer::Refused(Refusal::BadTarget);
     }
     Transfer::To(jump(regs, to))
 }
 
 // CALL @AR, and CALL once its target is known to be in reach.
-pub fn call(stack: &mut [u16; 5], regs: Regs, target: u16) -> Transfer
-    ensures { λ r. ⌜ transferOf (now (stack .exit)) regs r ≡ callOf upd17132 target (withStack (now (stack .entry)) regs) ⌝ }
+pub fn call(model: Model, stack: &mut [u16; 5], regs: Regs, target: u16) -> Transfer
+    ensures { λ r. ⌜ transferOf (now (stack .exit)) regs r ≡ callOf (chipOf model) target (withStack (now (stack .entry)) regs) ⌝ }
 {
     let levels = regs.levels;
-    if 5 <= levels {
+    if model.levels() <= levels {
         return Transfer::Refused(Refusal::StackFull);
     }
-    stack[levels as usize] = next(regs.pc);
+    stack[levels as usize] = next(model, regs.pc);
     Transfer::To(Regs {
         pc: target,
         levels: levels + 1,
@@ -133,18 +134,18 @@ pub fn call(stack: &mut [u16; 5], regs: Regs, target: u16) -> Transfer
 }
 
 // CALL: the target is tried before the stack.
-pub fn call_in_reach(stack: &mut [u16; 5], regs: Regs, target: u16) -> Transfer
-    ensures { λ r. ⌜ transferOf (now (stack .exit)) regs r ≡ inReach upd17132 target (withStack (now (stack .entry)) regs) (callOf upd17132 target (withStack (now (stack .entry)) regs)) ⌝ }
+pub fn call_in_reach(model: Model, stack: &mut [u16; 5], regs: Regs, target: u16) -> Transfer
+    ensures { λ r. ⌜ transferOf (now (stack .exit)) regs r ≡ inReach (chipOf model) target (withStack (now (stack .entry)) regs) (callOf (chipOf model) target (withStack (now (stack .entry)) regs)) ⌝ }
 {
-    if 1024 <= target {
+    if model.addresses() <= target {
         return Transfer::Refused(Refusal::BadTarget);
     }
-    call(stack, regs, target)
+    call(model, stack, regs, target)
 }
 
 // RET, and RETSK, which sets the skip mark.
 pub fn ret(stack: &mut [u16; 5], regs: Regs, skip: bool) -> Transfer
-    ensures { λ r. ⌜ transferOf (now (stack .exit)) regs r ≡ returnOf upd17132 skip (withStack (now (stack .entry)) regs) ⌝ }
+    ensures { λ r. ⌜ transferOf (now (stack .exit)) regs r ≡ returnOf skip (withStack (now (stack .entry)) regs) ⌝ }
 {
     let levels = regs.levels;
     if levels == 0 {
@@ -162,16 +163,16 @@ pub fn ret(stack: &mut [u16; 5], regs: Regs, skip: bool) -> Transfer
 }
 
 // PUSH AR.
-pub fn push(stack: &mut [u16; 5], regs: Regs, ar: u16) -> Transfer
-    ensures { λ r. ⌜ transferOf (now (stack .exit)) regs r ≡ pushOf upd17132 ar (withStack (now (stack .entry)) regs) ⌝ }
+pub fn push(model: Model, stack: &mut [u16; 5], regs: Regs, ar: u16) -> Transfer
+    ensures { λ r. ⌜ transferOf (now (stack .exit)) regs r ≡ pushOf (chipOf model) ar (withStack (now (stack .entry)) regs) ⌝ }
 {
     let levels = regs.levels;
-    if 5 <= levels {
+    if model.levels() <= levels {
         return Transfer::Refused(Refusal::StackFull);
     }
     stack[levels as usize] = ar;
     Transfer::To(Regs {
-        pc: next(regs.pc),
+        pc: next(model, regs.pc),
         levels: levels + 1,
         skip: regs.skip,
         standby: regs.standby,
@@ -190,8 +191,8 @@ pub fn top(stack: &[u16; 5], regs: Regs) -> u16
 }
 
 // POP AR, whose value the caller has read.
-pub fn pop(stack: &mut [u16; 5], regs: Regs) -> Transfer
-    ensures { λ r. ⌜ transferOf (now (stack .exit)) regs r ≡ popOf upd17132 (withStack (now (stack .entry)) regs) ⌝ }
+pub fn pop(model: Model, stack: &mut [u16; 5], regs: Regs) -> Transfer
+    ensures { λ r. ⌜ transferOf (now (stack .exit)) regs r ≡ popOf (chipOf model) (withStack (now (stack .entry)) regs) ⌝ }
 {
     let levels = regs.levels;
     if levels == 0 {
@@ -200,7 +201,7 @@ pub fn pop(stack: &mut [u16; 5], regs: Regs) -> Transfer
     let top = levels - 1;
     clear(stack, top);
     Transfer::To(Regs {
-        pc: next(regs.pc),
+        pc: next(model, regs.pc),
         levels: top,
         skip: regs.skip,
         standby: regs.standby,
@@ -208,14 +209,14 @@ pub fn pop(stack: &mut [u16; 5], regs: Regs) -> Transfer
 }
 
 // MOVT: one free level is needed, and given back at once.
-pub fn table(regs: Regs) -> Transfer
-    ensures { λ r. ⌜ ((stack : List ℕ) → transferOf stack regs r ≡ tableOf upd17132 (withStack stack regs)) ⌝ }
+pub fn table(model: Model, regs: Regs) -> Transfer
+    ensures { λ r. ⌜ ((stack : List ℕ) → transferOf stack regs r ≡ tableOf (chipOf model) (withStack stack regs)) ⌝ }
 {
-    if 5 <= regs.levels {
+    if model.levels() <= regs.levels {
         return Transfer::Refused(Refusal::StackFull);
     }
     Transfer::To(Regs {
-        pc: next(regs.pc),
+        pc: next(model, regs.pc),
         levels: regs.levels,
         skip: regs.skip,
         standby: regs.standby,

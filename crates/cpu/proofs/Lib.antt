@@ -8,4 +8,5 @@ pub mod Turns
 pub mod Loop
 pub mod Paced
 pub mod Settled
+pub mod Lacking
 pub mod Promises

@@ -26,7 +26,7 @@ use Rattle.peripherals.specs.Registers.{isData}
 use Rattle.peripherals.specs.declared.Peripherals.{Peripherals}
 use Rattle.operations.specs.Settings.{settingsOf}
 use Rattle.operations.specs.Writes.{pokeWrites, writesAt, writesOf}
-use Rattle.cpu.specs.Execute.{writtenOf, setOf, pastTable, transferBy, executeOf}
+use Rattle.cpu.specs.Execute.{writtenOf, setOf, lacksOf, pastTable, transferBy, executeOf}
 use Rattle.cpu.specs.Cycles.{nextCycles}
 use Rattle.cpu.specs.Joined.{wholeOf, fetchedOf}
 use Rattle.cpu.specs.Reply.{done, refused, Step, completedStep, standingStep, refusedStep}
@@ -54,20 +54,24 @@ other false x y e = refl
 
 module _ (chip : Chip) (rom : List ℕ) (signals : Signals) where
   -- a refused instruction leaves the record as it came
-  settled-kept : (b t : Bool) (m after : Machine) (k n : ℕ)
-      → (cond b (cond t (refusedStep 8 m) (completedStep after)) (refusedStep k m)) .reply ≡ refused n
-      → (cond b (cond t (refusedStep 8 m) (completedStep after)) (refusedStep k m)) .machine ≡ m
-  settled-kept true true m after k n e = refl
-  settled-kept true false m after k n e = absurd (let z : _≡_ {A = ℕ} 0 1 = cc in omega arith)
-  settled-kept false true m after k n e = refl
-  settled-kept false false m after k n e = refl
+  settled : Bool → Bool → Bool → Machine → Machine → ℕ → Step
+  settled b t l m after k =
+      cond b (cond t (refusedStep 8 m) (cond l (refusedStep 31 m) (completedStep after))) (refusedStep k m)
+
+  settled-kept : (b t l : Bool) (m after : Machine) (k n : ℕ) → settled b t l m after k .reply ≡ refused n
+      → settled b t l m after k .machine ≡ m
+  unfolding settled
+  settled-kept true true l m after k n e = refl
+  settled-kept true false true m after k n e = refl
+  settled-kept true false false m after k n e = absurd (let z : _≡_ {A = ℕ} 0 1 = cc in omega arith)
+  settled-kept false t l m after k n e = refl
 
   executed-kept : (i : Instruction) (m : Machine) (n : ℕ) → (executeOf chip rom signals i m) .reply ≡ refused n
       → (executeOf chip rom signals i m) .machine ≡ m
-  unfolding executeOf
+  unfolding executeOf settled
   executed-kept i m n e =
       let s : Transfer = transferBy chip rom signals i m in
-      settled-kept (eqb (s .refusal) 0) (pastTable rom (arOf (cellsOf m)) (flowOf i)) m
+      settled-kept (eqb (s .refusal) 0) (pastTable rom (arOf (cellsOf m)) (flowOf i)) (lacksOf chip rom signals i m) m
       (machineOf (writtenOf chip rom signals i m) (setOf chip rom signals i m) (s .control)) (s .refusal) n e
 
   refused-kept : (i : Instruction) (m left : Machine) (n : ℕ) → refusedStep n left ≡ executeOf chip rom signals i m → left ≡ m
@@ -78,19 +82,19 @@ module _ (chip : Chip) (rom : List ℕ) (signals : Signals) where
   not-refused n e = let z : _≡_ {A = ℕ} 0 1 = cc in omega arith
 
   -- a completed instruction leaves the cells that it wrote
-  settled-cells : (b t : Bool) (m after x : Machine) (k : ℕ)
-      → completedStep x ≡ cond b (cond t (refusedStep 8 m) (completedStep after)) (refusedStep k m) → x ≡ after
-  settled-cells true true m after x k e = absurd (not-refused 8 (ap (λ (s : Step). s .reply) e))
-  settled-cells true false m after x k e = ap (λ (s : Step). s .machine) e
-  settled-cells false true m after x k e = absurd (not-refused k (ap (λ (s : Step). s .reply) e))
-  settled-cells false false m after x k e = absurd (not-refused k (ap (λ (s : Step). s .reply) e))
+  settled-cells : (b t l : Bool) (m after x : Machine) (k : ℕ) → completedStep x ≡ settled b t l m after k → x ≡ after
+  unfolding settled
+  settled-cells true true l m after x k e = absurd (not-refused 8 (ap (λ (s : Step). s .reply) e))
+  settled-cells true false true m after x k e = absurd (not-refused 31 (ap (λ (s : Step). s .reply) e))
+  settled-cells true false false m after x k e = ap (λ (s : Step). s .machine) e
+  settled-cells false t l m after x k e = absurd (not-refused k (ap (λ (s : Step). s .reply) e))
 
   completed-cells : (i : Instruction) (m x : Machine) → completedStep x ≡ executeOf chip rom signals i m
       → cellsOf x ≡ writtenOf chip rom signals i m
-  unfolding executeOf
+  unfolding executeOf settled
   completed-cells i m x e =
       let s : Transfer = transferBy chip rom signals i m in
-      ap cellsOf (settled-cells (eqb (s .refusal) 0) (pastTable rom (arOf (cellsOf m)) (flowOf i)) m _ x (s .refusal) e)
+      ap cellsOf (settled-cells (eqb (s .refusal) 0) (pastTable rom (arOf (cellsOf m)) (flowOf i)) (lacksOf chip rom signals i m) m _ x (s .refusal) e)
 
   -- what an instruction sets it reads from cells that it does not write
   poked-late : (b : Bool) (rf : ℕ) (m : Machine) → isData rf ≡ b

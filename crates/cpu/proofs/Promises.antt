@@ -13,7 +13,7 @@ use contract.Monad.{Fun, fact}
 use denote.Ref.{now}
 use denote.Triple.Clauses.{AtExit}
 use denote.Triple.Entry.{Args, Res}
-use Rattle.memory.specs.Chip.{upd17132}
+use Rattle.memory.specs.Chip.{chipOf}
 use Rattle.cpu.specs.Cost.{stepCost}
 use Rattle.machine.specs.Parts.{machineOf}
 use Rattle.machine.specs.Signals.{signals}
@@ -27,10 +27,10 @@ module _ {M : Type 1} (𝓤 : URA M) (H : Heap 𝓤) (A : Atoms 𝓤) (mem : Mem
   -- a are the arguments, r the result, e the arguments at exit
   pub step-counts : (κs : Lfts 1) (a : Args step.signature κs) (r : Res step.signature κs) (e : AtExit step.ended κs)
       → ent 𝓤 (step.clauses 𝓤 H A mem runs κs a .ensures tt r e)
-      (fact 𝓤 (r .count ≡ stepCost upd17132 (now (a .0)) (signals (a .1 .1 .0) (a .1 .1 .1 .0)) (a .1 .0)))
+      (fact 𝓤 (r .count ≡ stepCost (chipOf (a .0)) (now (a .1 .0)) (signals (a .1 .1 .1 .0) (a .1 .1 .1 .1 .0)) (a .1 .1 .0)))
   step-counts κs a r e = second
 
   pub place-counts : (κs : Lfts 2) (a : Args place.signature κs) (r : Res place.signature κs) (e : AtExit place.ended κs)
       → ent 𝓤 (place.clauses 𝓤 H A mem runs κs a .ensures tt r e)
-      (fact 𝓤 (r .count ≡ stepCost upd17132 (now (a .0)) (signals (a .1 .1 .1 .1 .0) (a .1 .1 .1 .1 .1 .0)) (machineOf (now (a .1 .0)) (a .1 .1 .0) (a .1 .1 .1 .0))))
+      (fact 𝓤 (r .count ≡ stepCost (chipOf (a .0)) (now (a .1 .0)) (signals (a .1 .1 .1 .1 .1 .0) (a .1 .1 .1 .1 .1 .1 .0)) (machineOf (now (a .1 .1 .0)) (a .1 .1 .1 .0) (a .1 .1 .1 .1 .0))))
   place-counts κs a r e = second

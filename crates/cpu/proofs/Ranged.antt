@@ -37,7 +37,7 @@ use Rattle.control.specs.declared.Flow.the-variants.{Onward, Skips, Branches, C
 use Rattle.operations.proofs.Sets.{sets}
 use Rattle.operations.specs.Settings.{settingsOf}
 use Rattle.operations.specs.Writes.{holdsOf, writesOf}
-use Rattle.cpu.specs.Execute.{dataOf, sourcesOf, setOf, pastTable, writtenOf, transferBy, executeOf}
+use Rattle.cpu.specs.Execute.{dataOf, sourcesOf, setOf, lacksOf, pastTable, writtenOf, transferBy, executeOf}
 use Rattle.cpu.specs.Cycles.{nextCycles}
 use Rattle.cpu.specs.Reply.{Reply, done, inStandby, refused, Step, completedStep, standingStep, refusedStep}
 use Rattle.cpu.specs.Step.{isStanding, waits, tickedBy, stoodBy, woken, unlessRefused, decodedOf, passOver, fetchOf, advanceOf, stepOf}
@@ -82,7 +82,7 @@ module _ (chip : Chip) (small : chip .levels ≤ places) where
     unless-full : (after : Control) → (c .levels < chip .levels → Fine chip small after) → Good (unlessFull chip c after)
     unless-full after h = full after h (leb (chip .levels) (c .levels)) refl
 
-    unless-empty : (after : Control) → (0 < c .levels → Fine chip small after) → Good (unlessEmpty chip c after)
+    unless-empty : (after : Control) → (0 < c .levels → Fine chip small after) → Good (unlessEmpty c after)
     unless-empty after h = empty after h (eqb (c .levels) 0) refl
 
     called : (to : ℕ) → to < 2 ^ chip .pcBits → Good (callOf chip to c)
@@ -92,7 +92,7 @@ module _ (chip : Chip) (small : chip .levels ≤ places) where
         unless-full (jumpTo to (pushedOf next c))
         (λ l. jumped chip small to (pushedOf next c) h (pushed chip small next c (wrap-below (chip .pcBits) (c .pc)) l f))
 
-    returned : (skip : Bool) → Good (returnOf chip skip c)
+    returned : (skip : Bool) → Good (returnOf skip c)
     unfolding returnOf
     returned skip =
         unless-empty (withSkip skip (jumpTo (topOf c) (poppedOf c)))
@@ -163,12 +163,15 @@ module _ (chip : Chip) (small : chip .levels ≤ places) where
         let after : Machine = machineOf (writtenOf chip rom signals i m) (setOf chip rom signals i m) (t .control) in
         let ws = writesOf chip (dataOf m signals) i (sourcesOf rom m) in
         let past : Bool = pastTable rom (arOf (cellsOf m)) (flowOf i) in
+        let lacks : Bool = lacksOf chip rom signals i m in
+        let rest : Step = cond lacks (refusedStep 31 m) (completedStep after) in
         either Ranged (eqb (t .refusal) 0)
-        (cond past (refusedStep 8 m) (completedStep after)) (refusedStep (t .refusal) m)
-        (either Ranged past (refusedStep 8 m) (completedStep after) r
+        (cond past (refusedStep 8 m) rest) (refusedStep (t .refusal) m)
+        (either Ranged past (refusedStep 8 m) rest r
+        (either Ranged lacks (refusedStep 31 m) (completedStep after) r
         (whole (writtenOf chip rom signals i m) _ (t .control) (ranged chip ws (cellsOf m) (p .cells))
         (set-in-range (cellsOf m) (m .peripherals) i (p .peripherals))
-        (shifted (m .control) (p .control) (flowOf i) (holdsOf chip (dataOf m signals) i) (arOf (cellsOf m)) (fits (cellsOf m) (p .cells)))))
+        (shifted (m .control) (p .control) (flowOf i) (holdsOf chip (dataOf m signals) i) (arOf (cellsOf m)) (fits (cellsOf m) (p .cells))))))
         r
 
     decodes : (m : Machine) (d : Decoding) → R m → R ((decodedOf chip rom signals m d) .machine)

@@ -1,7 +1,7 @@
 -- From what the control functions and the data functions answer to the step of an instruction.
 -- Assumes nothing.
 use mathlib.Core.Path.{_≡_, _∙_, ap, refl, sym, subst}
-use mathlib.Core.Bool.{true, false}
+use mathlib.Core.Bool.{Bool, true, false}
 use mathlib.Core.List.{List}
 use Prim.Native.Nat.{ℕ}
 use native.Mathlib.Omega.{arith}
@@ -18,7 +18,7 @@ use Rattle.machine.specs.Signals.{Signals}
 use Rattle.peripherals.specs.declared.Peripherals.{Peripherals}
 use Rattle.machine.specs.declared.Machine.{Machine}
 use Rattle.machine.specs.declared.Refusal.{Refusal}
-use Rattle.machine.specs.declared.Refusal.the-variants.{OutOfRange, PastRom, NoInstruction, Unsupported, NoRegister, BadTarget, StackFull, StackEmpty, PastTable}
+use Rattle.machine.specs.declared.Refusal.the-variants.{OutOfRange, PastRom, NoInstruction, Unsupported, NoRegister, BadTarget, StackFull, StackEmpty, PastTable, MissingCell}
 use Rattle.control.specs.Control.{Transfer, goes, refusedControl, topOf}
 use Rattle.control.specs.Flow.{flowOf}
 use Rattle.control.specs.Transfers.{transferOf, withStack}
@@ -27,11 +27,11 @@ use Rattle.control.specs.declared.Transfer as code
 use Rattle.control.specs.declared.Transfer.the-variants.{To, Refused}
 use Rattle.control.proofs.Keeps.{Keeps, keeps}
 use Rattle.operations.specs.Data.{Data}
-use Rattle.operations.specs.Operands.{addressesOf}
+use Rattle.operations.specs.Operands.{addressesOf, lacksAt}
 use Rattle.operations.specs.Settings.{settingsOf}
 use Rattle.operations.specs.Writes.{holdsAt, holdsOf, writesAt, writesOf}
 use Rattle.operations.specs.declared.Addresses.{Addresses}
-use Rattle.cpu.specs.Execute.{executeOf, writtenOf, transferBy, pastTable, dataOf, sourcesOf}
+use Rattle.cpu.specs.Execute.{executeOf, writtenOf, lacksOf, transferBy, pastTable, dataOf, sourcesOf}
 use Rattle.cpu.specs.Joined.{executedOf, wholeOf}
 use Rattle.cpu.specs.Reply.{completedStep, refusedStep}
 
@@ -45,6 +45,7 @@ number-not-0 BadTarget = refl
 number-not-0 StackFull = refl
 number-not-0 StackEmpty = refl
 number-not-0 PastTable = refl
+number-not-0 MissingCell = refl
 
 -- a skip's condition at the address that was found
 pub told : (chip : Chip) (d : Data) (i : Instruction) (a : Addresses) → a ≡ addressesOf chip d i → holdsAt chip d a i ≡ holdsOf chip d i
@@ -66,11 +67,17 @@ module _ (chip : Chip) (rom : List ℕ) (signals : Signals) (cells stack : List 
     unfolding writtenOf writesOf
     written after e = rw (← found) e
 
-  -- control goes on, and no table is missed
+    -- whether the chip lacks a cell there
+    pub lacking : {b : Bool} → lacksAt chip a ≡ b → lacksOf chip rom signals i before ≡ b
+    unfolding lacksOf
+    lacking e = rw (← found) e
+
+  -- control goes on, no table is missed and no cell
   pub completes : (after left : List ℕ) (r : Regs) → goes (withStack left r) ≡ shift → pastTable rom (arOf cells) (flowOf i) ≡ false
-      → after ≡ writtenOf chip rom signals i before → completedStep (wholeOf after left (settingsOf cells p i) r) ≡ executeOf chip rom signals i before
+      → lacksOf chip rom signals i before ≡ false → after ≡ writtenOf chip rom signals i before
+      → completedStep (wholeOf after left (settingsOf cells p i) r) ≡ executeOf chip rom signals i before
   unfolding executeOf
-  completes after left r e t h = rw (← e, t, h)
+  completes after left r e t l h = rw (← e, t, l, h)
 
   -- control goes on, and the table is missed
   pub misses : (left : List ℕ) (r : Regs) → goes (withStack left r) ≡ shift → pastTable rom (arOf cells) (flowOf i) ≡ true
@@ -92,15 +99,6 @@ module _ (chip : Chip) (rom : List ℕ) (signals : Signals) (cells stack : List 
 
   -- an instruction that writes no cell
   pub moves : (q : code.Transfer) (left : List ℕ) → transferOf left regs q ≡ shift → pastTable rom (arOf cells) (flowOf i) ≡ false
-      → cells ≡ writtenOf chip rom signals i before → executedOf cells left (settingsOf cells p i) p regs q ≡ executeOf chip rom signals i before
-  moves (To r) left e t h = completes cells left r e t h
-  moves (Refused q) left e t h = refuses q left e
-
-  -- an instruction that control is known not to refuse
-  pub passes : (q : code.Transfer) (after left : List ℕ) → transferOf left regs q ≡ shift → eqb (shift .refusal) 0 ≡ true
-      → pastTable rom (arOf cells) (flowOf i) ≡ false → after ≡ writtenOf chip rom signals i before
-      → executedOf after left (settingsOf cells p i) p regs q ≡ executeOf chip rom signals i before
-  passes (To r) after left e p t h = completes after left r e t h
-  passes (Refused q) after left e p t h =
-      let n : eqb (numberOf q) 0 ≡ true = ap (λ (s : Transfer). eqb (s .refusal) 0) e ∙ p in
-      absurd (let z : _≡_ {A = ℕ} 0 1 = cc (number-not-0 q) in omega arith)
+      → lacksOf chip rom signals i before ≡ false → cells ≡ writtenOf chip rom signals i before → executedOf cells left (settingsOf cells p i) p regs q ≡ executeOf chip rom signals i before
+  moves (To r) left e t l h = completes cells left r e t l h
+  moves (Refused q) left e t l h = refuses q left e

@@ -1,4 +1,4 @@
--- What an instruction makes of the record: control first, then refusal 8, then the writes and settings. A refusal leaves the
+-- What an instruction makes of the record: control first, then refusals 8 and 31, then the writes and settings. A refusal leaves the
 -- record as it came.
 -- Assumes nothing.
 use mathlib.Core.Bool.{Bool, _&&_, cond}
@@ -17,6 +17,7 @@ use Rattle.control.specs.Control.{Transfer, controlOf, topOf}
 use Rattle.control.specs.Flow.{flowOf, readsTable}
 use Rattle.control.specs.declared.Flow.{Flow}
 use Rattle.operations.specs.Data.{Data, Sources, dataAt}
+use Rattle.operations.specs.Operands.{addressesOf, lacksAt}
 use Rattle.operations.specs.Settings.{settingsOf}
 use Rattle.operations.specs.Writes.{writesOf, holdsOf}
 use Rattle.peripherals.specs.declared.Peripherals.{Peripherals}
@@ -46,11 +47,17 @@ module _ (chip : Chip) (rom : List ℕ) (signals : Signals) where
   unfoldable pub transferBy : Instruction → Machine → Transfer
   transferBy i m = controlOf chip (flowOf i) (holdsOf chip (dataOf m signals) i) (arOf (cellsOf m)) (m .control)
 
-  -- what is left once control has gone on or been refused: refusal 8, then the writes and settings
+  -- refusal 31: a missing cell read or written
+  unfoldable pub lacksOf : Instruction → Machine → Bool
+  lacksOf i m = lacksAt chip (addressesOf chip (dataOf m signals) i)
+
+  -- what is left once control has gone on or been refused: refusals 8 and 31, then the writes and settings
   abbrev pub settleOf : Instruction → Machine → Transfer → Step
   settleOf i m t =
       cond (eqb (t .refusal) 0)
-      (cond (pastTable rom (arOf (cellsOf m)) (flowOf i)) (refusedStep 8 m) (completedStep (machineOf (writtenOf i m) (setOf i m) (t .control))))
+      (cond (pastTable rom (arOf (cellsOf m)) (flowOf i))
+      (refusedStep 8 m)
+      (cond (lacksOf i m) (refusedStep 31 m) (completedStep (machineOf (writtenOf i m) (setOf i m) (t .control)))))
       (refusedStep (t .refusal) m)
 
   unfoldable pub executeOf : Instruction → Machine → Step

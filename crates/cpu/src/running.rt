@@ -1,6 +1,6 @@
 // The counted run, and the step as its run of one.
 ghost use mathlib.Core.Path.{_≡_};
-ghost use Rattle.memory.specs.Chip.{upd17132};
+ghost use Rattle.memory.specs.Chip.{chipOf};
 ghost use Rattle.machine.specs.Parts.{machineOf};
 ghost use Rattle.machine.specs.Signals.{signals};
 ghost use Rattle.cpu.specs.Answers.{endOf, reachedStep, replyOf, runOfRan, stepOfStepped};
@@ -26,6 +26,7 @@ use machine::Input;
 use machine::Machine;
 use machine::Refusal;
 use machine::ranges;
+use memory::Model;
 use peripherals::Peripherals;
 use peripherals::join as whole;
 use peripherals::pace;
@@ -65,6 +66,7 @@ fn so_far(
 // Steps up to a refusal, standby or the budget, on the cells where they stand. The range is tested once; each step keeps it. It
 // serves the run and the step, so that `advance` has one caller and is inlined there.
 fn go(
+    model: Model,
     rom: &[u16],
     cells: &mut [u8; 128],
     peripherals: Peripherals,
@@ -73,8 +75,8 @@ fn go(
     pulse: u8,
     budget: u32,
 ) -> Reached
-    ensures { λ r. ⌜ ended (r .count) (refusalOf (replyOf (r .answer))) (machineOf (now (cells .exit)) (r .peripherals) (r .control)) ≡ runOf upd17132 (now (rom .entry)) (signals input pulse) budget (machineOf (now (cells .entry)) peripherals control) ⌝ }
-    ensures { λ r. ⌜ (budget ≡ 1 → reachedStep (now (cells .exit)) r ≡ stepOf upd17132 (now (rom .entry)) (signals input pulse) (machineOf (now (cells .entry)) peripherals control)) ⌝ }
+    ensures { λ r. ⌜ ended (r .count) (refusalOf (replyOf (r .answer))) (machineOf (now (cells .exit)) (r .peripherals) (r .control)) ≡ runOf (chipOf model) (now (rom .entry)) (signals input pulse) budget (machineOf (now (cells .entry)) peripherals control) ⌝ }
+    ensures { λ r. ⌜ (budget ≡ 1 → reachedStep (now (cells .exit)) r ≡ stepOf (chipOf model) (now (rom .entry)) (signals input pulse) (machineOf (now (cells .entry)) peripherals control)) ⌝ }
 {
     if 65535 < budget {
         return so_far(
@@ -85,7 +87,7 @@ fn go(
             Answer::Refused(Refusal::OutOfRange),
         );
     }
-    if !ranges::all(rom, join(*cells, peripherals, control), input, pulse) {
+    if !ranges::all(model, rom, join(*cells, peripherals, control), input, pulse) {
         return so_far(
             peripherals,
             control,
@@ -109,7 +111,16 @@ fn go(
     let mut steps: u32 = 0;
     let mut cycles: u32 = 0;
     while steps < budget {
-        match advance(rom, cells, &mut stack, regs, &pins, &mut registers, timer) {
+        match advance(
+            model,
+            rom,
+            cells,
+            &mut stack,
+            regs,
+            &pins,
+            &mut registers,
+            timer,
+        ) {
             Advanced::OnTo {
                 regs: next,
                 timer: set,
@@ -150,12 +161,13 @@ fn go(
 }
 
 // The counted run.
-pub fn run(rom: &[u16], machine: Machine, input: Input, pulse: u8, budget: u32) -> Ran
-    ensures { λ r. ⌜ runOfRan r ≡ runOf upd17132 (now (rom .entry)) (signals input pulse) budget machine ⌝ }
+pub fn run(model: Model, rom: &[u16], machine: Machine, input: Input, pulse: u8, budget: u32) -> Ran
+    ensures { λ r. ⌜ runOfRan r ≡ runOf (chipOf model) (now (rom .entry)) (signals input pulse) budget machine ⌝ }
 {
     let memory = machine.memory;
     let mut cells = memory.cells;
     let last = go(
+        model,
         rom,
         &mut cells,
         machine.peripherals,
@@ -174,13 +186,14 @@ pub fn run(rom: &[u16], machine: Machine, input: Input, pulse: u8, budget: u32) 
 }
 
 // One step: the run of one, with its answer.
-pub fn step(rom: &[u16], machine: Machine, input: Input, pulse: u8) -> Stepped
-    ensures { λ r. ⌜ stepOfStepped r ≡ stepOf upd17132 (now (rom .entry)) (signals input pulse) machine ⌝ }
-    ensures { λ r. ⌜ r .count ≡ stepCost upd17132 (now (rom .entry)) (signals input pulse) machine ⌝ }
+pub fn step(model: Model, rom: &[u16], machine: Machine, input: Input, pulse: u8) -> Stepped
+    ensures { λ r. ⌜ stepOfStepped r ≡ stepOf (chipOf model) (now (rom .entry)) (signals input pulse) machine ⌝ }
+    ensures { λ r. ⌜ r .count ≡ stepCost (chipOf model) (now (rom .entry)) (signals input pulse) machine ⌝ }
 {
     let memory = machine.memory;
     let mut cells = memory.cells;
     let one = go(
+        model,
         rom,
         &mut cells,
         machine.peripherals,
@@ -200,6 +213,7 @@ pub fn step(rom: &[u16], machine: Machine, input: Input, pulse: u8) -> Stepped
 
 // One step on the cells where they stand.
 pub fn step_in_place(
+    model: Model,
     rom: &[u16],
     cells: &mut [u8; 128],
     peripherals: Peripherals,
@@ -207,8 +221,8 @@ pub fn step_in_place(
     input: Input,
     pulse: u8,
 ) -> Reached
-    ensures { λ r. ⌜ reachedStep (now (cells .exit)) r ≡ stepOf upd17132 (now (rom .entry)) (signals input pulse) (machineOf (now (cells .entry)) peripherals control) ⌝ }
-    ensures { λ r. ⌜ r .count ≡ stepCost upd17132 (now (rom .entry)) (signals input pulse) (machineOf (now (cells .entry)) peripherals control) ⌝ }
+    ensures { λ r. ⌜ reachedStep (now (cells .exit)) r ≡ stepOf (chipOf model) (now (rom .entry)) (signals input pulse) (machineOf (now (cells .entry)) peripherals control) ⌝ }
+    ensures { λ r. ⌜ r .count ≡ stepCost (chipOf model) (now (rom .entry)) (signals input pulse) (machineOf (now (cells .entry)) peripherals control) ⌝ }
 {
-    go(rom, cells, peripherals, control, input, pulse, 1)
+    go(model, rom, cells, peripherals, control, input, pulse, 1)
 }

@@ -5,7 +5,7 @@ ghost use mathlib.Core.Bool.{cond, false, _&&_};
 ghost use Prim.Native.Nat.{ℕ};
 ghost use lib.Dec.{eqb};
 ghost use lib.ListN.{getD};
-ghost use Rattle.memory.specs.Chip.{upd17132};
+ghost use Rattle.memory.specs.Chip.{chipOf};
 ghost use Rattle.machine.specs.Parts.{HALT, isMarked, machineOf};
 ghost use Rattle.peripherals.specs.Pace.{Quiet};
 ghost use Rattle.peripherals.specs.Parts.{withTimer};
@@ -26,6 +26,7 @@ use machine::Control;
 use machine::Machine;
 use machine::Refusal;
 use memory::Memory;
+use memory::Model;
 use peripherals::Peripherals;
 use peripherals::Timer;
 
@@ -75,6 +76,7 @@ fn woken(regs: Regs) -> Regs
 // A step of a machine in range that does not stay in standby, up to its last phase, the timer's. A skipped word is fetched and not
 // decoded.
 pub(crate) fn advance(
+    model: Model,
     rom: &[u16],
     cells: &mut [u8; 128],
     stack: &mut [u16; 5],
@@ -83,7 +85,7 @@ pub(crate) fn advance(
     registers: &mut [u8; 7],
     timer: Timer,
 ) -> Advanced
-    ensures { λ r. ⌜ ((directions : List ℕ) (release pulse : ℕ) → (isMarked (regs .standby) && eqb release 0) ≡ false → advancedOf pulse (now (cells .exit)) (now (stack .exit)) (now (registers .exit)) timer regs r ≡ advanceOf upd17132 (now (rom .entry)) (signalsAt (now (pins .entry)) directions release pulse) (wholeOf (now (cells .entry)) (now (stack .entry)) (withTimer (now (registers .entry)) timer) regs)) ⌝ }
+    ensures { λ r. ⌜ ((directions : List ℕ) (release pulse : ℕ) → (isMarked (regs .standby) && eqb release 0) ≡ false → advancedOf pulse (now (cells .exit)) (now (stack .exit)) (now (registers .exit)) timer regs r ≡ advanceOf (chipOf model) (now (rom .entry)) (signalsAt (now (pins .entry)) directions release pulse) (wholeOf (now (cells .entry)) (now (stack .entry)) (withTimer (now (registers .entry)) timer) regs)) ⌝ }
     ensures { λ r. ⌜ TakesCycles (cyclesOf (getD (now (rom .entry)) (regs .pc) 0) (regs .skip)) r ⌝ }
     ensures { λ r. ⌜ ((pulse : ℕ) → Quiet (withTimer (now (registers .entry)) timer) pulse (timer .quiet) → StaysQuiet (now (registers .exit)) pulse r) ⌝ }
 {
@@ -93,7 +95,7 @@ pub(crate) fn advance(
     let awake = woken(regs);
     if regs.skip != 0 {
         return Advanced::OnTo {
-            regs: control::onward(awake, false),
+            regs: control::onward(model, awake, false),
             timer: timer,
             cycles: 1,
         };
@@ -102,6 +104,7 @@ pub(crate) fn advance(
         return Advanced::Stopped(Refusal::NoInstruction);
     };
     match execute(
+        model,
         rom,
         instruction,
         cells,

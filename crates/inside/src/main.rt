@@ -1,5 +1,6 @@
 // Shows what no step does: the data buffer read as a number of 16 bits; and addresses as numbers. All other cases are in cases/.
 use memory::Memory;
+use memory::Model;
 
 fn show(name: &[u8], n: u16) {
     io::write_all(1, name);
@@ -9,7 +10,7 @@ fn show(name: &[u8], n: u16) {
 
 fn show_buffer(memory: Memory) {
     let before = memory.cells;
-    let cells = memory::write_buffer(before, 0xABCD);
+    let cells = memory::write_buffer(Model::Upd17132, before, 0xABCD);
     show(b"data buffer ", memory::buffer(&cells));
 }
 

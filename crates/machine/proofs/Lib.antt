@@ -1,3 +1,4 @@
 mod Nibbles
+mod Missing
 mod Split
 pub mod Marks

@@ -1,4 +1,4 @@
--- What is in range: document 01, refusal 1, with what document 02, E4, adds.
+-- What is in range: document 01, refusal 1, with what document 02, E1 and E4, adds.
 -- Assumes nothing.
 use mathlib.Core.Bool.{Bool, _&&_, cond}
 use mathlib.Core.List.{List}

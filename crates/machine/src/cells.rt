@@ -1,12 +1,14 @@
 // Which cells are in range.
 ghost use mathlib.Core.Path.{_≡_};
+ghost use mathlib.Core.Bool.{cond};
 ghost use Prim.Native.Nat.{_<_};
 ghost use Rattle.laws.specs.Every.{every};
-ghost use Rattle.memory.specs.Chip.{upd17132};
+ghost use Rattle.memory.specs.Chip.{chipOf};
 ghost use Rattle.memory.specs.Range.{cellInRange, cellsInRange};
-ghost use Rattle.machine.specs.FixedBits.{fixedInRange};
+ghost use Rattle.machine.specs.FixedBits.{emptyIfMissing, fixedInRange};
 ghost use Rattle.machine.specs.Ranges.{isNibble};
 use memory::Memory;
+use memory::Model;
 
 // Whether every cell holds a nibble: no bit of any is above the lowest four.
 fn all_nibbles(cells: &[u8; 128]) -> bool
@@ -20,44 +22,71 @@ fn all_nibbles(cells: &[u8; 128]) -> bool
 }
 
 // Whether a cell holds only bits that stay.
-fn stays(cells: &[u8; 128], at: u8) -> bool
+fn stays(model: Model, cells: &[u8; 128], at: u8) -> bool
     requires { ⌜ at < 128 ⌝ }
-    ensures { λ r. ⌜ r ≡ cellInRange upd17132 (now (cells .entry)) at ⌝ }
+    ensures { λ r. ⌜ r ≡ cellInRange (chipOf model) (now (cells .entry)) at ⌝ }
 {
     let v = cells[at as usize];
-    v & memory::mask(at) == v
+    v & memory::mask(model, at) == v
 }
 
 // The seven cells where not every bit of a nibble stays.
-fn fixed_bits(cells: &[u8; 128]) -> bool
-    ensures { λ r. ⌜ r ≡ fixedInRange upd17132 (now (cells .entry)) ⌝ }
+fn fixed_bits(model: Model, cells: &[u8; 128]) -> bool
+    ensures { λ r. ⌜ r ≡ fixedInRange (chipOf model) (now (cells .entry)) ⌝ }
 {
-    if !stays(cells, Memory::AR3) {
+    if !stays(model, cells, Memory::AR3) {
         return false;
     }
-    if !stays(cells, Memory::BANK) {
+    if !stays(model, cells, Memory::BANK) {
         return false;
     }
-    if !stays(cells, Memory::RPH) {
+    if !stays(model, cells, Memory::RPH) {
         return false;
     }
-    if !stays(cells, Memory::AR2) {
+    if !stays(model, cells, Memory::AR2) {
         return false;
     }
-    if !stays(cells, Memory::IXH) {
+    if !stays(model, cells, Memory::IXH) {
         return false;
     }
-    if !stays(cells, Memory::IXM) {
+    if !stays(model, cells, Memory::IXM) {
         return false;
     }
-    stays(cells, Memory::P0E)
+    stays(model, cells, Memory::P0E)
 }
 
-pub fn in_range(cells: &[u8; 128]) -> bool
-    ensures { λ r. ⌜ r ≡ cellsInRange upd17132 (now (cells .entry)) ⌝ }
+// What a cell must not hold: anything, where it is not installed.
+fn surplus(model: Model, at: u8, v: u8) -> u8
+    ensures { λ r. ⌜ r ≡ cond ((chipOf model) .installed at) 0 v ⌝ }
+{
+    if model.is_installed(at) {
+        return 0;
+    }
+    v
+}
+
+// Whether every cell that the chip lacks is 0.
+fn missing_empty(model: Model, cells: &[u8; 128]) -> bool
+    ensures { λ r. ⌜ r ≡ every (emptyIfMissing (chipOf model) (now (cells .entry))) 128 ⌝ }
+{
+    if model.is_whole() {
+        return true;
+    }
+    let mut bits: u8 = 0;
+    for i in 0..128u8 {
+        bits = bits | surplus(model, i, cells[i as usize]);
+    }
+    bits == 0
+}
+
+pub fn in_range(model: Model, cells: &[u8; 128]) -> bool
+    ensures { λ r. ⌜ r ≡ cellsInRange (chipOf model) (now (cells .entry)) ⌝ }
 {
     if !all_nibbles(cells) {
         return false;
     }
-    fixed_bits(cells)
+    if !missing_empty(model, cells) {
+        return false;
+    }
+    fixed_bits(model, cells)
 }

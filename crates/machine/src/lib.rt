@@ -37,7 +37,7 @@ pub struct Machine {
     pub control: Control,
 }
 
-// Why a step is refused: refusals 1 to 8, in their order, with 30 after 4.
+// Why a step is refused: refusals 1 to 8, in their order, with 30 after 4 and 31 after 8.
 pub enum Refusal {
     OutOfRange,
     PastRom,
@@ -48,6 +48,7 @@ pub enum Refusal {
     StackFull,
     StackEmpty,
     PastTable,
+    MissingCell,
 }
 
 impl Refusal {
@@ -64,6 +65,7 @@ impl Refusal {
             Refusal::StackFull => 6,
             Refusal::StackEmpty => 7,
             Refusal::PastTable => 8,
+            Refusal::MissingCell => 31,
         }
     }
 }

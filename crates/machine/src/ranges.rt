@@ -1,14 +1,17 @@
 // What is in range: refusal 1.
 ghost use mathlib.Core.Path.{_≡_};
 ghost use mathlib.Core.Bool.{cond};
-ghost use lib.Dec.{eqb, ltb};
-ghost use Rattle.memory.specs.Chip.{upd17132};
-ghost use Rattle.machine.specs.Ranges.{fiveNibbles, controlInRange, marksInRange, machineInRange, inputInRange, signalsInRange, romInRange, allInRange};
+ghost use Prim.Native.Nat.{_^_};
+ghost use lib.Dec.{eqb, leb, ltb};
+ghost use Rattle.laws.specs.Every.{every};
+ghost use Rattle.memory.specs.Chip.{chipOf};
+ghost use Rattle.machine.specs.Ranges.{fiveNibbles, places, levelInRange, controlInRange, marksInRange, machineInRange, inputInRange, signalsInRange, romInRange, allInRange};
 ghost use Rattle.machine.specs.Signals.{signals};
 use crate::Control;
 use crate::Input;
 use crate::Machine;
 use crate::cells;
+use memory::Model;
 
 // Five nibbles.
 fn are_nibbles(xs: [u8; 5]) -> bool
@@ -17,40 +20,60 @@ fn are_nibbles(xs: [u8; 5]) -> bool
     (xs[0] | xs[1] | xs[2] | xs[3] | xs[4]) < 16
 }
 
+fn is_address(model: Model, address: u16) -> bool
+    ensures { λ r. ⌜ r ≡ ltb address (2 ^ (chipOf model) .pcBits) ⌝ }
+{
+    address < model.addresses()
+}
+
+// Not more levels than the chip has.
+fn can_be_open(model: Model, levels: u8) -> bool
+    ensures { λ r. ⌜ r ≡ leb levels ((chipOf model) .levels) ⌝ }
+{
+    levels <= model.levels()
+}
+
 // An open level holds an address, and a closed one 0.
-fn level(k: u8, levels: u8, address: u16) -> bool
-    ensures { λ r. ⌜ r ≡ cond (ltb k levels) (ltb address 1024) (eqb address 0) ⌝ }
+fn level(model: Model, k: u8, levels: u8, address: u16) -> bool
+    ensures { λ r. ⌜ r ≡ cond (ltb k levels) (ltb address (2 ^ (chipOf model) .pcBits)) (eqb address 0) ⌝ }
 {
     if k < levels {
-        return address < 1024;
+        return is_address(model, address);
     }
     address == 0
 }
 
-fn control(c: Control) -> bool
-    ensures { λ r. ⌜ r ≡ controlInRange upd17132 c ⌝ }
+// The five places of the stack.
+fn stack(model: Model, c: Control) -> bool
+    ensures { λ r. ⌜ r ≡ every (levelInRange (chipOf model) c) places ⌝ }
 {
-    if 1024 <= c.pc {
-        return false;
-    }
     let levels = c.levels;
-    if 5 < levels {
+    let held = c.stack;
+    if !level(model, 4, levels, held[4]) {
         return false;
     }
-    let stack = c.stack;
-    if !level(4, levels, stack[4]) {
+    if !level(model, 3, levels, held[3]) {
         return false;
     }
-    if !level(3, levels, stack[3]) {
+    if !level(model, 2, levels, held[2]) {
         return false;
     }
-    if !level(2, levels, stack[2]) {
+    if !level(model, 1, levels, held[1]) {
         return false;
     }
-    if !level(1, levels, stack[1]) {
+    level(model, 0, levels, held[0])
+}
+
+fn control(model: Model, c: Control) -> bool
+    ensures { λ r. ⌜ r ≡ controlInRange (chipOf model) c ⌝ }
+{
+    if !is_address(model, c.pc) {
         return false;
     }
-    level(0, levels, stack[0])
+    if !can_be_open(model, c.levels) {
+        return false;
+    }
+    stack(model, c)
 }
 
 // The skip mark is 0 or 1, and the standby mark 0, 1 or 2.
@@ -63,16 +86,16 @@ fn marks(c: Control) -> bool
     c.standby <= 2
 }
 
-fn machine(m: Machine) -> bool
-    ensures { λ r. ⌜ r ≡ machineInRange upd17132 m ⌝ }
+fn machine(model: Model, m: Machine) -> bool
+    ensures { λ r. ⌜ r ≡ machineInRange (chipOf model) m ⌝ }
 {
     let memory = m.memory;
     let cells = memory.cells;
-    if !cells::in_range(&cells) {
+    if !cells::in_range(model, &cells) {
         return false;
     }
     let part = m.control;
-    if !control(part) {
+    if !control(model, part) {
         return false;
     }
     if !marks(part) {
@@ -95,13 +118,13 @@ fn input(i: Input) -> bool
     i.release < 2
 }
 
-fn rom(words: &[u16]) -> bool
-    ensures { λ r. ⌜ r ≡ romInRange upd17132 (now (words .entry)) ⌝ }
+fn rom(model: Model, words: &[u16]) -> bool
+    ensures { λ r. ⌜ r ≡ romInRange (chipOf model) (now (words .entry)) ⌝ }
 {
     if words.len() == 0 {
         return false;
     }
-    words.len() <= 1024
+    words.len() <= model.words()
 }
 
 // The input record, and the pulse bit beside it.
@@ -115,14 +138,14 @@ fn given(i: Input, pulse: u8) -> bool
 }
 
 // All that a step tests for refusal 1.
-pub fn all(words: &[u16], m: Machine, i: Input, pulse: u8) -> bool
-    ensures { λ r. ⌜ r ≡ allInRange upd17132 (now (words .entry)) m (signals i pulse) ⌝ }
+pub fn all(model: Model, words: &[u16], m: Machine, i: Input, pulse: u8) -> bool
+    ensures { λ r. ⌜ r ≡ allInRange (chipOf model) (now (words .entry)) m (signals i pulse) ⌝ }
 {
-    if !machine(m) {
+    if !machine(model, m) {
         return false;
     }
     if !given(i, pulse) {
         return false;
     }
-    rom(words)
+    rom(model, words)
 }

@@ -1,20 +1,21 @@
 -- The laws of the cell write, over the address and the chip.
 -- Assumes nothing.
-use mathlib.Core.Path.{_≡_, _∙_, refl}
-use mathlib.Core.Bool.{Bool, true, false}
+use mathlib.Core.Path.{_≡_, _∙_, ap, refl, sym}
+use mathlib.Core.Bool.{Bool, true, false, not, cond}
 use mathlib.Core.List.{List, [], _∷_}
 use Prim.Native.Nat.{ℕ, _<_, _≤_}
-use borrow.Author.Tests.{eqb-false, eq-eqb}
-use lib.Dec.{eqb}
+use borrow.Author.Tests.{eqb-false, eq-eqb, ltb-true, not-true}
+use lib.Bits.{bitAnd, and-zero-r}
+use lib.Dec.{eqb, eqb→eq, ltb}
 use lib.ListN.{getD, length, length-set}
 use lib.Seq.{getD-set-same, getD-set-other, set-out}
 use Rattle.laws.proofs.Again.{again}
-use Rattle.laws.proofs.Booleans.{or-neither}
-use Rattle.laws.proofs.Every.{passed}
+use Rattle.laws.proofs.Booleans.{both, or-neither}
+use Rattle.laws.proofs.Every.{every-at, passed}
 use Rattle.laws.proofs.Stored.{every-stored}
-use Rattle.memory.specs.Chip.{Chip}
-use Rattle.memory.specs.Range.{cellsInRange}
-use Rattle.memory.specs.Write.{Write, keptOf, writeOf, writesApplied, touches}
+use Rattle.memory.specs.Chip.{Chip, isMissing}
+use Rattle.memory.specs.Range.{cellInRange, cellsInRange}
+use Rattle.memory.specs.Write.{Write, maskAt, keptOf, writeOf, writesApplied, touches}
 use Rattle.memory.specs.WriteLaws.{WriteLaws}
 
 module _ (chip : Chip) where
@@ -26,13 +27,18 @@ module _ (chip : Chip) where
   unfolding writeOf
   other cells at v k h = getD-set-other cells at k (keptOf chip at v) 0 h
 
+  stored : (cells : List ℕ) (at v : ℕ) → at < length cells → chip .installed at ≡ true
+      → getD (writeOf chip cells at v) at 0 ≡ bitAnd v (getD (chip .masks) at 0)
+  unfolding keptOf
+  stored cells at v h i = same cells at v h ∙ ap (λ (b : Bool). bitAnd v (cond b (getD (chip .masks) at 0) 0)) i
+
   past : (cells : List ℕ) (at v : ℕ) → length cells ≤ at → writeOf chip cells at v ≡ cells
   unfolding writeOf
   past cells at v h = set-out cells at (keptOf chip at v) h
 
   kept-kept : (at v : ℕ) → keptOf chip at (keptOf chip at v) ≡ keptOf chip at v
   unfolding keptOf
-  kept-kept at v = again v (getD (chip .masks) at 0)
+  kept-kept at v = again v (maskAt chip at)
 
   -- a cell in range by what it holds
   abbrev fits : ℕ → ℕ → Bool
@@ -46,6 +52,17 @@ module _ (chip : Chip) where
   unfolding writesApplied
   ranged [] cells r = r
   ranged (w ∷ ws) cells r = ranged ws (writeOf chip cells (w .at) (w .value)) (ranged-once cells (w .at) (w .value) r)
+
+  -- of a missing cell no bit stays
+  pub none-kept : (k v : ℕ) → chip .installed k ≡ false → keptOf chip k v ≡ 0
+  unfolding keptOf
+  none-kept k v e = ap (λ (b : Bool). bitAnd v (cond b (getD (chip .masks) k 0) 0)) e ∙ and-zero-r v
+
+  missing : (cells : List ℕ) (k : ℕ) → isMissing chip k ≡ true → cellsInRange chip cells ≡ true → getD cells k 0 ≡ 0
+  unfolding cellsInRange
+  missing cells k m r =
+      let e = both (ltb k 128) (not (chip .installed k)) m in
+      sym (eqb→eq _ _ (every-at (cellInRange chip cells) 128 (passed r) k (ltb-true k 128 (e .0)))) ∙ none-kept k (getD cells k 0) (not-true _ (e .1))
 
   pub untouched : (ws : List Write) (cells : List ℕ) (k : ℕ) → touches ws k ≡ false
       → getD (writesApplied chip cells ws) k 0 ≡ getD cells k 0
@@ -63,9 +80,12 @@ module _ (chip : Chip) where
   pub write-laws : (cells : List ℕ) → WriteLaws chip cells
   write-laws cells = record {
     same = same cells;
+    stored = stored cells;
     other = other cells;
     past = past cells;
     untouched = λ ws k. untouched ws cells k;
     ranged = λ ws. ranged ws cells;
+    missing = missing cells;
+    stays-missing = λ ws k m r. missing (writesApplied chip cells ws) k m (ranged ws cells r);
     counted = λ ws. counted ws cells;
   }

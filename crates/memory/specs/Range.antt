@@ -1,5 +1,5 @@
--- When the cells are in range: document 01, "a nibble above 15 .. a fixed bit set". A cell is in range where all its bits
--- are such as stay.
+-- When the cells are in range: document 01, "a nibble above 15 .. a fixed bit set", and document 02, E1, "a missing cell not 0". A
+-- cell is in range where all its bits are such as stay.
 -- Assumes nothing.
 use mathlib.Core.Bool.{Bool}
 use mathlib.Core.List.{List}

@@ -1,7 +1,7 @@
 -- The write of a cell: document 01, "Always 0, and 0 after a write of 1". An address past 7FH is no cell: a write there
 -- changes nothing.
 -- Assumes nothing.
-use mathlib.Core.Bool.{Bool, false, _||_}
+use mathlib.Core.Bool.{Bool, false, _||_, cond}
 use mathlib.Core.List.{List, [], _∷_}
 use Prim.Native.Nat.{ℕ}
 use lib.Bits.{bitAnd}
@@ -9,9 +9,13 @@ use lib.Dec.{eqb}
 use lib.ListN.{getD, set}
 use Rattle.memory.specs.Chip.{Chip}
 
+-- the bits that stay at an address; none where the cell is not installed
+abbrev pub maskAt : Chip → ℕ → ℕ
+maskAt chip at = cond (chip .installed at) (getD (chip .masks) at 0) 0
+
 -- the bits of v that stay at an address
 unfoldable pub keptOf : Chip → ℕ → ℕ → ℕ
-keptOf chip at v = bitAnd v (getD (chip .masks) at 0)
+keptOf chip at v = bitAnd v (maskAt chip at)
 
 -- one place changed, the rest equal
 unfoldable pub writeOf : Chip → List ℕ → ℕ → ℕ → List ℕ

@@ -1,18 +1,19 @@
 // The cell write and the cell read.
 ghost use mathlib.Core.Path.{_≡_};
 ghost use Rattle.memory.specs.Cells.{isSet, withFlag};
-ghost use Rattle.memory.specs.Chip.{upd17132};
+ghost use Rattle.memory.specs.Chip.{chipOf};
 ghost use Rattle.memory.specs.Read.{readOf, mixOf};
 ghost use Rattle.memory.specs.Write.{keptOf, writeOf};
 use crate::Memory;
+use crate::Model;
 use crate::masks::mask;
 
 // One cell written, its fixed bits 0; the rest equal. Past 7FH there is no cell. It passes over all places, so that the compiler
 // does it in vector registers: a store at a variable place of a copy makes the loads that copy it back wait.
-pub fn write(cells: [u8; 128], at: u8, v: u8) -> [u8; 128]
-    ensures { λ r. ⌜ r ≡ writeOf upd17132 cells at v ⌝ }
+pub fn write(model: Model, cells: [u8; 128], at: u8, v: u8) -> [u8; 128]
+    ensures { λ r. ⌜ r ≡ writeOf (chipOf model) cells at v ⌝ }
 {
-    let kept = v & mask(at);
+    let kept = v & mask(model, at);
     let mut next = cells;
     let mut left = at;
     for i in 0..128usize {
@@ -24,10 +25,10 @@ pub fn write(cells: [u8; 128], at: u8, v: u8) -> [u8; 128]
 }
 
 // The same for cells behind a reference: they become the whole array that `write` returned.
-pub fn store(cells: &mut [u8; 128], at: u8, v: u8)
-    ensures { λ _. ⌜ now (cells .exit) ≡ writeOf upd17132 (now (cells .entry)) at v ⌝ }
+pub fn store(model: Model, cells: &mut [u8; 128], at: u8, v: u8)
+    ensures { λ _. ⌜ now (cells .exit) ≡ writeOf (chipOf model) (now (cells .entry)) at v ⌝ }
 {
-    *cells = write(*cells, at, v);
+    *cells = write(model, *cells, at, v);
 }
 
 // Bit by bit the pin where the direction is 0 and the stored bit where it is 1.
@@ -38,16 +39,16 @@ fn mix(pin: u8, direction: u8, stored: u8) -> u8
 }
 
 // A port as it is read; a bit that is always 0 reads 0.
-fn port(at: u8, pin: u8, direction: u8, stored: u8) -> u8
-    ensures { λ r. ⌜ r ≡ keptOf upd17132 at (mixOf pin direction stored) ⌝ }
+fn port(model: Model, at: u8, pin: u8, direction: u8, stored: u8) -> u8
+    ensures { λ r. ⌜ r ≡ keptOf (chipOf model) at (mixOf pin direction stored) ⌝ }
 {
-    mix(pin, direction, stored) & mask(at)
+    mix(pin, direction, stored) & mask(model, at)
 }
 
 // A cell as an instruction reads it. Pins and directions are those of P0A to P0E. The ports lie side by side, so that most cells
 // are told by two tests.
-pub fn read(cells: &[u8; 128], pins: &[u8; 5], directions: &[u8; 5], at: u8) -> u8
-    ensures { λ r. ⌜ r ≡ readOf upd17132 (now (cells .entry)) (now (pins .entry)) (now (directions .entry)) at ⌝ }
+pub fn read(model: Model, cells: &[u8; 128], pins: &[u8; 5], directions: &[u8; 5], at: u8) -> u8
+    ensures { λ r. ⌜ r ≡ readOf (chipOf model) (now (cells .entry)) (now (pins .entry)) (now (directions .entry)) at ⌝ }
 {
     if 128 <= at {
         return 0;
@@ -60,18 +61,18 @@ pub fn read(cells: &[u8; 128], pins: &[u8; 5], directions: &[u8; 5], at: u8) -> 
         return stored;
     }
     if at == Memory::P0A {
-        return port(at, pins[0], directions[0], stored);
+        return port(model, at, pins[0], directions[0], stored);
     }
     if at == Memory::P0B {
-        return port(at, pins[1], directions[1], stored);
+        return port(model, at, pins[1], directions[1], stored);
     }
     if at == Memory::P0C {
-        return port(at, pins[2], directions[2], stored);
+        return port(model, at, pins[2], directions[2], stored);
     }
     if at == Memory::P0D {
-        return port(at, pins[3], directions[3], stored);
+        return port(model, at, pins[3], directions[3], stored);
     }
-    port(at, pins[4], directions[4], stored)
+    port(model, at, pins[4], directions[4], stored)
 }
 
 // Whether a flag bit of a cell is 1.

@@ -3,6 +3,7 @@
 mod addressing;
 mod cells;
 mod masks;
+mod models;
 mod registers;
 
 pub use addressing::address;
@@ -26,6 +27,12 @@ pub use registers::write_buffer;
 pub use registers::write_low_byte;
 ghost use mathlib.Core.Path.{_≡_};
 ghost use Rattle.memory.specs.Range.{resetMemory};
+
+// A chip that a board may have.
+pub enum Model {
+    Upd17132,
+    Upd17120,
+}
 
 #[repr(C)]
 pub struct Memory {

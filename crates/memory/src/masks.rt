@@ -1,13 +1,14 @@
 // The bits that stay at each address; the others are always 0.
 ghost use mathlib.Core.Path.{_≡_};
 ghost use lib.ListN.{getD};
-ghost use Rattle.memory.specs.Chip.{upd17132};
+ghost use Rattle.memory.specs.Chip.{chipOf, subseriesMasks};
+ghost use Rattle.memory.specs.Write.{maskAt};
 use crate::Memory;
+use crate::Model;
 
-// The bits that stay at an address: all of a nibble, but at seven cells, which come in document 01's order. Past 7FH there is
-// no cell.
-pub fn mask(at: u8) -> u8
-    ensures { λ r. ⌜ r ≡ getD (upd17132 .masks) at 0 ⌝ }
+// All bits of a nibble stay, but at seven cells, which come in document 01's order. Past 7FH there is no cell.
+fn subseries(at: u8) -> u8
+    ensures { λ r. ⌜ r ≡ getD subseriesMasks at 0 ⌝ }
 {
     if 128 <= at {
         return 0;
@@ -34,4 +35,14 @@ pub fn mask(at: u8) -> u8
         return 0b0011;
     }
     0b1111
+}
+
+// The bits that stay at an address; none of a cell that is not installed.
+pub fn mask(model: Model, at: u8) -> u8
+    ensures { λ r. ⌜ r ≡ maskAt (chipOf model) at ⌝ }
+{
+    if !model.is_installed(at) {
+        return 0;
+    }
+    subseries(at)
 }

@@ -2,11 +2,12 @@
 ghost use mathlib.Core.Path.{_≡_};
 ghost use Prim.Native.Nat.{_%_};
 ghost use Rattle.laws.specs.Wrap.{wrapNext};
-ghost use Rattle.memory.specs.Chip.{upd17132};
+ghost use Rattle.memory.specs.Chip.{chipOf};
 ghost use Rattle.memory.specs.Cells.{number};
 ghost use Rattle.memory.specs.Registers.{windowOf, arOf, bufferOf, lowByteOf, lowByteWrites, numberWrites, arWrites, bufferWrites, incrementAr, incrementIx};
 ghost use Rattle.memory.specs.Write.{writesApplied};
 use crate::Memory;
+use crate::Model;
 use crate::addressing::ix;
 use crate::cells::write;
 
@@ -32,13 +33,13 @@ fn joined(a: u8, b: u8, c: u8, d: u8) -> u16
 }
 
 // A number of 16 bits written to four cells, the highest nibble first.
-fn spread(cells: [u8; 128], a: u8, b: u8, c: u8, d: u8, v: u16) -> [u8; 128]
-    ensures { λ r. ⌜ r ≡ writesApplied upd17132 cells (numberWrites a b c d v) ⌝ }
+fn spread(model: Model, cells: [u8; 128], a: u8, b: u8, c: u8, d: u8, v: u16) -> [u8; 128]
+    ensures { λ r. ⌜ r ≡ writesApplied (chipOf model) cells (numberWrites a b c d v) ⌝ }
 {
-    let first = write(cells, a, (v / 4096) as u8);
-    let second = write(first, b, (v / 256 % 16) as u8);
-    let third = write(second, c, (v / 16 % 16) as u8);
-    write(third, d, (v % 16) as u8)
+    let first = write(model, cells, a, (v / 4096) as u8);
+    let second = write(model, first, b, (v / 256 % 16) as u8);
+    let third = write(model, second, c, (v / 16 % 16) as u8);
+    write(model, third, d, (v % 16) as u8)
 }
 
 // WR.
@@ -60,18 +61,26 @@ pub fn ar(cells: &[u8; 128]) -> u16
     )
 }
 
-pub fn write_ar(cells: [u8; 128], v: u16) -> [u8; 128]
-    ensures { λ r. ⌜ r ≡ writesApplied upd17132 cells (arWrites v) ⌝ }
+pub fn write_ar(model: Model, cells: [u8; 128], v: u16) -> [u8; 128]
+    ensures { λ r. ⌜ r ≡ writesApplied (chipOf model) cells (arWrites v) ⌝ }
 {
-    spread(cells, Memory::AR3, Memory::AR2, Memory::AR1, Memory::AR0, v)
+    spread(
+        model,
+        cells,
+        Memory::AR3,
+        Memory::AR2,
+        Memory::AR1,
+        Memory::AR0,
+        v,
+    )
 }
 
 // INC AR: after 3FFH comes 000H.
-pub fn increment_ar(cells: [u8; 128]) -> [u8; 128]
-    ensures { λ r. ⌜ r ≡ writesApplied upd17132 cells (incrementAr cells) ⌝ }
+pub fn increment_ar(model: Model, cells: [u8; 128]) -> [u8; 128]
+    ensures { λ r. ⌜ r ≡ writesApplied (chipOf model) cells (incrementAr cells) ⌝ }
 {
     let v = next_ar(ar(&cells));
-    write_ar(cells, v)
+    write_ar(model, cells, v)
 }
 
 // The data buffer.
@@ -86,10 +95,11 @@ pub fn buffer(cells: &[u8; 128]) -> u16
     )
 }
 
-pub fn write_buffer(cells: [u8; 128], v: u16) -> [u8; 128]
-    ensures { λ r. ⌜ r ≡ writesApplied upd17132 cells (bufferWrites v) ⌝ }
+pub fn write_buffer(model: Model, cells: [u8; 128], v: u16) -> [u8; 128]
+    ensures { λ r. ⌜ r ≡ writesApplied (chipOf model) cells (bufferWrites v) ⌝ }
 {
     spread(
+        model,
         cells,
         Memory::DBF3,
         Memory::DBF2,
@@ -107,20 +117,20 @@ pub fn low_byte(cells: &[u8; 128]) -> u8
 }
 
 // The lower eight bits of the data buffer written, and its upper eight kept.
-pub fn write_low_byte(cells: [u8; 128], v: u8) -> [u8; 128]
-    ensures { λ r. ⌜ r ≡ writesApplied upd17132 cells (lowByteWrites v) ⌝ }
+pub fn write_low_byte(model: Model, cells: [u8; 128], v: u8) -> [u8; 128]
+    ensures { λ r. ⌜ r ≡ writesApplied (chipOf model) cells (lowByteWrites v) ⌝ }
 {
-    let high = write(cells, Memory::DBF1, v / 16);
-    write(high, Memory::DBF0, v % 16)
+    let high = write(model, cells, Memory::DBF1, v / 16);
+    write(model, high, Memory::DBF0, v % 16)
 }
 
 // INC IX: after 7FH comes 00H, and MPE stays.
-pub fn increment_ix(cells: [u8; 128]) -> [u8; 128]
-    ensures { λ r. ⌜ r ≡ writesApplied upd17132 cells (incrementIx cells) ⌝ }
+pub fn increment_ix(model: Model, cells: [u8; 128]) -> [u8; 128]
+    ensures { λ r. ⌜ r ≡ writesApplied (chipOf model) cells (incrementIx cells) ⌝ }
 {
     let x = next_ix(ix(&cells));
     let high = cells[Memory::IXH as usize];
-    let first = write(cells, Memory::IXH, high);
-    let second = write(first, Memory::IXM, x / 16);
-    write(second, Memory::IXL, x % 16)
+    let first = write(model, cells, Memory::IXH, high);
+    let second = write(model, first, Memory::IXM, x / 16);
+    write(model, second, Memory::IXL, x % 16)
 }

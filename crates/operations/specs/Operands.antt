@@ -1,7 +1,7 @@
 -- The operands of an instruction, and where they stand: document 01, "Addresses". Their addresses are found before anything is
 -- written.
 -- Assumes nothing.
-use mathlib.Core.Bool.{cond}
+use mathlib.Core.Bool.{Bool, _||_, cond}
 use mathlib.Core.List.{List, [], _∷_}
 use Prim.Native.Nat.{ℕ}
 use Rattle.isa.specs.declared.AluOp.{AluOp}
@@ -13,7 +13,7 @@ use Rattle.isa.specs.declared.FixedOp.the-variants.{IncAr, IncIx, Movt, PushAr,
 use Rattle.isa.specs.declared.Instruction.{Instruction}
 use Rattle.isa.specs.declared.Instruction.the-variants.{AluRegister, AluImmediate, Skip, Rorc, Ld, St, MovToIndirect, MovFromIndirect, MovImmediate, Peek, Poke, Get, Put, Br, Call, Stop, Halt, Fixed}
 use Rattle.memory.specs.Address.{addressOf, registerOf, indirectOf}
-use Rattle.memory.specs.Chip.{Chip}
+use Rattle.memory.specs.Chip.{Chip, isMissing}
 use Rattle.memory.specs.Names.{AR3, AR2, AR1, AR0, WR, DBF1, DBF0, IXH, IXM, IXL, RPL, PSW}
 use Rattle.peripherals.specs.Registers.{isData}
 use Rattle.operations.specs.Data.{Data, readAt}
@@ -32,6 +32,8 @@ pub record Operands : Type 0 where
   pub to : Operand
   -- the cell that it is taken from
   pub from : Operand
+  -- the register that gives @r its column
+  pub pointer : Operand
   -- the cells that the instruction goes by without naming them, besides those that its addresses go by
   pub implied : List ℕ
 
@@ -73,7 +75,11 @@ impliedByFixed Di = []
 impliedByFixed Nop = []
 
 abbrev pub operands : Operand → Operand → List ℕ → Operands
-operands to from implied = record { to = to; from = from; implied = implied }
+operands to from implied = record { to = to; from = from; pointer = none; implied = implied }
+
+-- MOV through the register r
+abbrev pub pointed : Operand → Operand → ℕ → Operands
+pointed to from r = record { to = to; from = from; pointer = register r; implied = [] }
 
 abbrev pub operandsOf : Instruction → Operands
 operandsOf (AluRegister op r m) = operands (register r) (direct m) (impliedByAlu op)
@@ -82,8 +88,8 @@ operandsOf (Skip op m n4) = operands none (direct m) (impliedBySkip op)
 operandsOf (Rorc r) = operands (register r) none (PSW ∷ [])
 operandsOf (Ld r m) = operands (register r) (direct m) []
 operandsOf (St m r) = operands (direct m) (register r) []
-operandsOf (MovToIndirect r m) = operands (indirect m r) (direct m) []
-operandsOf (MovFromIndirect m r) = operands (direct m) (indirect m r) []
+operandsOf (MovToIndirect r m) = pointed (indirect m r) (direct m) r
+operandsOf (MovFromIndirect m r) = pointed (direct m) (indirect m r) r
 operandsOf (MovImmediate m n4) = operands (direct m) none []
 operandsOf (Peek rf) = operands none (file rf) []
 operandsOf (Poke rf) = operands (file rf) none (WR ∷ [])
@@ -109,4 +115,9 @@ module _ (chip : Chip) (d : Data) where
   addressIn (file rf) = cond (isData rf) rf noCell
 
   unfoldable pub addressesOf : Instruction → Addresses
-  addressesOf i = record { to = addressIn (operandsOf i .to); from = addressIn (operandsOf i .from) }
+  addressesOf i =
+      record { to = addressIn (operandsOf i .to); from = addressIn (operandsOf i .from); pointer = addressIn (operandsOf i .pointer) }
+
+-- document 02, E1: "a missing cell read or written", by the addresses that were found
+unfoldable pub lacksAt : Chip → Addresses → Bool
+lacksAt chip a = isMissing chip (a .to) || (isMissing chip (a .from) || isMissing chip (a .pointer))

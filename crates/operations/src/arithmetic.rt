@@ -2,7 +2,7 @@
 ghost use mathlib.Core.Path.{_≡_};
 ghost use Rattle.alu.specs.Results.{addOf, subtractOf};
 ghost use Rattle.memory.specs.Cells.{isSet};
-ghost use Rattle.memory.specs.Chip.{upd17132};
+ghost use Rattle.memory.specs.Chip.{chipOf};
 ghost use Rattle.memory.specs.Names.{RPL, BCD};
 ghost use Rattle.memory.specs.Write.{writesApplied};
 ghost use Rattle.operations.specs.Data.{dataAt};
@@ -11,6 +11,7 @@ use crate::file::read;
 use alu::Outcome;
 use isa::AluOp;
 use memory::Memory;
+use memory::Model;
 
 // PSW after an arithmetic result.
 fn flags_after(cells: &[u8; 128], o: Outcome) -> u8
@@ -24,66 +25,74 @@ fn flags_after(cells: &[u8; 128], o: Outcome) -> u8
 }
 
 // An arithmetic result.
-fn store_arithmetic(cells: &mut [u8; 128], at: u8, o: Outcome)
-    ensures { λ _. ⌜ now (cells .exit) ≡ writesApplied upd17132 (now (cells .entry)) (arithmeticWrites (now (cells .entry)) at o) ⌝ }
+fn store_arithmetic(model: Model, cells: &mut [u8; 128], at: u8, o: Outcome)
+    ensures { λ _. ⌜ now (cells .exit) ≡ writesApplied (chipOf model) (now (cells .entry)) (arithmeticWrites (now (cells .entry)) at o) ⌝ }
 {
     let psw = flags_after(&*cells, o);
     if memory::is_set(&*cells, Memory::PSW, Memory::CMP) {
-        memory::store(cells, Memory::PSW, psw);
+        memory::store(model, cells, Memory::PSW, psw);
         return;
     }
     if at == Memory::PSW {
-        memory::store(cells, Memory::PSW, o.result);
+        memory::store(model, cells, Memory::PSW, o.result);
         return;
     }
-    memory::store(cells, at, o.result);
-    memory::store(cells, Memory::PSW, psw);
+    memory::store(model, cells, at, o.result);
+    memory::store(model, cells, Memory::PSW, psw);
 }
 
 // ADD and ADDC.
-fn add(cells: &mut [u8; 128], at: u8, a: u8, b: u8, carry: bool)
-    ensures { λ _. ⌜ now (cells .exit) ≡ writesApplied upd17132 (now (cells .entry)) (arithmeticWrites (now (cells .entry)) at (addOf (isSet (now (cells .entry)) RPL BCD) a b carry)) ⌝ }
+fn add(model: Model, cells: &mut [u8; 128], at: u8, a: u8, b: u8, carry: bool)
+    ensures { λ _. ⌜ now (cells .exit) ≡ writesApplied (chipOf model) (now (cells .entry)) (arithmeticWrites (now (cells .entry)) at (addOf (isSet (now (cells .entry)) RPL BCD) a b carry)) ⌝ }
 {
     let bcd = memory::is_set(&*cells, Memory::RPL, Memory::BCD);
-    store_arithmetic(cells, at, alu::add(bcd, a, b, carry));
+    store_arithmetic(model, cells, at, alu::add(bcd, a, b, carry));
 }
 
 // SUB and SUBC.
-fn subtract(cells: &mut [u8; 128], at: u8, a: u8, b: u8, carry: bool)
-    ensures { λ _. ⌜ now (cells .exit) ≡ writesApplied upd17132 (now (cells .entry)) (arithmeticWrites (now (cells .entry)) at (subtractOf (isSet (now (cells .entry)) RPL BCD) a b carry)) ⌝ }
+fn subtract(model: Model, cells: &mut [u8; 128], at: u8, a: u8, b: u8, carry: bool)
+    ensures { λ _. ⌜ now (cells .exit) ≡ writesApplied (chipOf model) (now (cells .entry)) (arithmeticWrites (now (cells .entry)) at (subtractOf (isSet (now (cells .entry)) RPL BCD) a b carry)) ⌝ }
 {
     let bcd = memory::is_set(&*cells, Memory::RPL, Memory::BCD);
-    store_arithmetic(cells, at, alu::subtract(bcd, a, b, carry));
+    store_arithmetic(model, cells, at, alu::subtract(bcd, a, b, carry));
 }
 
 // An operation on what stands at an address and a second operand. Arithmetic sets flags, logic does not.
-pub fn operate(cells: &mut [u8; 128], pins: &[u8; 5], registers: &[u8; 7], op: AluOp, at: u8, b: u8)
-    ensures { λ _. ⌜ now (cells .exit) ≡ writesApplied upd17132 (now (cells .entry)) (aluWrites upd17132 (dataAt (now (cells .entry)) (now (pins .entry)) (now (registers .entry))) op at b) ⌝ }
+pub fn operate(
+    model: Model,
+    cells: &mut [u8; 128],
+    pins: &[u8; 5],
+    registers: &[u8; 7],
+    op: AluOp,
+    at: u8,
+    b: u8,
+)
+    ensures { λ _. ⌜ now (cells .exit) ≡ writesApplied (chipOf model) (now (cells .entry)) (aluWrites (chipOf model) (dataAt (now (cells .entry)) (now (pins .entry)) (now (registers .entry))) op at b) ⌝ }
 {
-    let a = read(&*cells, pins, registers, at);
+    let a = read(model, &*cells, pins, registers, at);
     match op {
         AluOp::Add => {
-            add(cells, at, a, b, false);
+            add(model, cells, at, a, b, false);
         }
         AluOp::AddC => {
             let carry = memory::is_set(&*cells, Memory::PSW, Memory::CY);
-            add(cells, at, a, b, carry);
+            add(model, cells, at, a, b, carry);
         }
         AluOp::Sub => {
-            subtract(cells, at, a, b, false);
+            subtract(model, cells, at, a, b, false);
         }
         AluOp::SubC => {
             let carry = memory::is_set(&*cells, Memory::PSW, Memory::CY);
-            subtract(cells, at, a, b, carry);
+            subtract(model, cells, at, a, b, carry);
         }
         AluOp::Or => {
-            memory::store(cells, at, a | b);
+            memory::store(model, cells, at, a | b);
         }
         AluOp::And => {
-            memory::store(cells, at, a & b);
+            memory::store(model, cells, at, a & b);
         }
         AluOp::Xor => {
-            memory::store(cells, at, a ^ b);
+            memory::store(model, cells, at, a ^ b);
         }
     }
 }

@@ -1,6 +1,6 @@
 // A cell as an instruction reads it, and the register file: PEEK, POKE, GET and PUT.
 ghost use mathlib.Core.Path.{_≡_};
-ghost use Rattle.memory.specs.Chip.{upd17132};
+ghost use Rattle.memory.specs.Chip.{chipOf};
 ghost use Rattle.memory.specs.Names.{WR};
 ghost use Rattle.memory.specs.Write.{writesApplied, writeOf};
 ghost use Prim.Native.Nat.{ℕ};
@@ -11,44 +11,45 @@ ghost use Rattle.operations.specs.Settings.{settingsOf};
 ghost use Rattle.operations.specs.Writes.{fileAt, pokeWrites};
 use isa::Instruction;
 use memory::Memory;
+use memory::Model;
 use peripherals::Peripherals;
 use peripherals::Timer;
 
 // A cell, with the ports' directions from the control registers.
-pub fn read(cells: &[u8; 128], pins: &[u8; 5], registers: &[u8; 7], at: u8) -> u8
-    ensures { λ r. ⌜ r ≡ readAt upd17132 (dataAt (now (cells .entry)) (now (pins .entry)) (now (registers .entry))) at ⌝ }
+pub fn read(model: Model, cells: &[u8; 128], pins: &[u8; 5], registers: &[u8; 7], at: u8) -> u8
+    ensures { λ r. ⌜ r ≡ readAt (chipOf model) (dataAt (now (cells .entry)) (now (pins .entry)) (now (registers .entry))) at ⌝ }
 {
     let directions = peripherals::directions(*registers);
-    memory::read(cells, pins, &directions, at)
+    memory::read(model, cells, pins, &directions, at)
 }
 
 // What stands in the register file.
-fn held(cells: &[u8; 128], pins: &[u8; 5], registers: &[u8; 7], rf: u8) -> u8
-    ensures { λ r. ⌜ r ≡ fileAt upd17132 (dataAt (now (cells .entry)) (now (pins .entry)) (now (registers .entry))) rf ⌝ }
+fn held(model: Model, cells: &[u8; 128], pins: &[u8; 5], registers: &[u8; 7], rf: u8) -> u8
+    ensures { λ r. ⌜ r ≡ fileAt (chipOf model) (dataAt (now (cells .entry)) (now (pins .entry)) (now (registers .entry))) rf ⌝ }
 {
     if Peripherals::DATA <= rf {
-        return read(cells, pins, registers, rf);
+        return read(model, cells, pins, registers, rf);
     }
     peripherals::peek(*registers, rf)
 }
 
 // PEEK: it goes to WR.
-pub fn peek(cells: &mut [u8; 128], pins: &[u8; 5], registers: &[u8; 7], rf: u8)
-    ensures { λ _. ⌜ now (cells .exit) ≡ writeOf upd17132 (now (cells .entry)) WR (fileAt upd17132 (dataAt (now (cells .entry)) (now (pins .entry)) (now (registers .entry))) rf) ⌝ }
+pub fn peek(model: Model, cells: &mut [u8; 128], pins: &[u8; 5], registers: &[u8; 7], rf: u8)
+    ensures { λ _. ⌜ now (cells .exit) ≡ writeOf (chipOf model) (now (cells .entry)) WR (fileAt (chipOf model) (dataAt (now (cells .entry)) (now (pins .entry)) (now (registers .entry))) rf) ⌝ }
 {
-    let v = held(&*cells, pins, registers, rf);
-    memory::store(cells, Memory::WR, v);
+    let v = held(model, &*cells, pins, registers, rf);
+    memory::store(model, cells, Memory::WR, v);
 }
 
 // POKE of a data cell; of a control register it writes no cell.
-pub fn poke(cells: &mut [u8; 128], rf: u8)
-    ensures { λ _. ⌜ now (cells .exit) ≡ writesApplied upd17132 (now (cells .entry)) (pokeWrites (now (cells .entry)) rf) ⌝ }
+pub fn poke(model: Model, cells: &mut [u8; 128], rf: u8)
+    ensures { λ _. ⌜ now (cells .exit) ≡ writesApplied (chipOf model) (now (cells .entry)) (pokeWrites (now (cells .entry)) rf) ⌝ }
 {
     if rf < Peripherals::DATA {
         return;
     }
     let wr = memory::window(&*cells);
-    memory::store(cells, rf, wr);
+    memory::store(model, cells, rf, wr);
 }
 
 // What an instruction makes of the peripherals, the registers where they stand. A timer that is as quiet as it says stays so.

@@ -16,13 +16,7 @@ use contract.Monad.{Fun, fact, fact-mono}
 use denote.Ref.{now}
 use denote.Triple.Clauses.{AtExit}
 use denote.Triple.Entry.{Args, Res}
-use Rattle.memory.specs.Chip.{upd17132}
-use Rattle.machine.specs.Parts.{resetMachine}
 use Rattle.machine.specs.Signals.{signals}
-use Rattle.cpu.specs.Run.{runOf}
-use Rattle.cpu.specs.Step.{stepOf}
-use Rattle.clearance.specs.Safe.{Safe}
-use Rattle.verifier.specs.Verdict.{Clear, verifyOf}
 use Rattle.listing.specs.Rows.{decodedRowOf, encodedRowOf}
 use Rattle.listing.specs.Table.{fields}
 use Rattle.station_file.specs.Answers.{buffersOf, stationOf}
@@ -32,6 +26,7 @@ use Rattle.station_file.specs.Write.{Write, writeOf}
 use Rattle.transcript.specs.Print.{Print, printOf}
 use Rattle.transcript.specs.Transcript.{transcriptOf}
 use Rattle.pollwezen.specs.Lent.{lentRun, lentRunOf, lentStep, lentStepOf}
+use Rattle.pollwezen.specs.Models.{modelOf, ClearOn, SafeOn, resetOn, runOn, stepOn, verifyOn}
 use Rattle.pollwezen.specs.Replies.{printReplyOf, readReplyOf, verdictReplyOf, writeReplyOf}
 use Rattle.pollwezen.proofs.pollwezen_reset as reset
 use Rattle.pollwezen.proofs.pollwezen_step as step
@@ -68,36 +63,36 @@ module _ {M : Type 1} (𝓤 : URA M) (H : Heap 𝓤) (A : Atoms 𝓤) (mem : Mem
   three {P} {Q} {R} = via 𝓤 (sep 𝓤 (fact 𝓤 Q) (fact 𝓤 R)) rest second
 
   -- a are the arguments, r the result, e the arguments at exit
-  module _ (κs : Lfts 0) (a : Args reset.signature κs) (r : Res reset.signature κs) (e : AtExit reset.ended κs) where
-    pub reset-answers : ent 𝓤 (reset.clauses 𝓤 H A mem runs κs a .ensures tt r e) (fact 𝓤 (r ≡ resetMachine))
-    reset-answers = follows (λ p. p)
+  module _ (κs : Lfts 1) (a : Args reset.signature κs) (r : Res reset.signature κs) (e : AtExit reset.ended κs) where
+    pub reset-leaves : ent 𝓤 (reset.clauses 𝓤 H A mem runs κs a .ensures tt r e) (fact 𝓤 (lentStep (now (e .1 .0)) r ≡ lentStepOf (resetOn (modelOf (a .0)) (now (a .1 .0)))))
+    reset-leaves = follows (λ p. p)
 
   module _ (κs : Lfts 2) (a : Args step.signature κs) (r : Res step.signature κs) (e : AtExit step.ended κs) where
     abbrev Step : SProp 𝓤
     Step = step.clauses 𝓤 H A mem runs κs a .ensures tt r e
 
-    pub step-leaves : ent 𝓤 Step (fact 𝓤 (lentStep (now (e .1 .0)) r ≡ lentStepOf (stepOf upd17132 (now (a .0)) (signals (a .1 .1 .0) (a .1 .1 .1 .0)) (now (a .1 .0)))))
+    pub step-leaves : ent 𝓤 Step (fact 𝓤 (lentStep (now (e .1 .1 .0)) r ≡ lentStepOf (stepOn (modelOf (a .0)) (now (a .1 .0)) (signals (a .1 .1 .1 .0) (a .1 .1 .1 .1 .0)) (now (a .1 .1 .0)))))
     step-leaves = follows (λ p. p .0)
 
-    pub step-keeps : ent 𝓤 Step (fact 𝓤 ((r ≡ 0 → ⊥) → (r ≡ 255 → ⊥) → now (e .1 .0) ≡ now (a .1 .0)))
+    pub step-keeps : ent 𝓤 Step (fact 𝓤 ((r ≡ 0 → ⊥) → (r ≡ 255 → ⊥) → now (e .1 .1 .0) ≡ now (a .1 .1 .0)))
     step-keeps = follows (λ p. p .1)
 
   module _ (κs : Lfts 2) (a : Args run.signature κs) (r : Res run.signature κs) (e : AtExit run.ended κs) where
     pub run-leaves : ent 𝓤 (run.clauses 𝓤 H A mem runs κs a .ensures tt r e)
-        (fact 𝓤 (lentRun (now (e .1 .0)) r ≡ lentRunOf (runOf upd17132 (now (a .0)) (signals (a .1 .1 .0) (a .1 .1 .1 .0)) (a .1 .1 .1 .1 .0) (now (a .1 .0)))))
+        (fact 𝓤 (lentRun (now (e .1 .1 .0)) r ≡ lentRunOf (runOn (modelOf (a .0)) (now (a .1 .0)) (signals (a .1 .1 .1 .0) (a .1 .1 .1 .1 .0)) (a .1 .1 .1 .1 .1 .0) (now (a .1 .1 .0)))))
     run-leaves = follows (λ p. p)
 
   module _ (κs : Lfts 2) (a : Args verify.signature κs) (r : Res verify.signature κs) (e : AtExit verify.ended κs) where
     abbrev Verify : SProp 𝓤
     Verify = verify.clauses 𝓤 H A mem runs κs a .ensures tt r e
 
-    pub verify-answers : ent 𝓤 Verify (fact 𝓤 (r ≡ verdictReplyOf (verifyOf upd17132 (now (a .0)) (now (a .1 .0)))))
+    pub verify-answers : ent 𝓤 Verify (fact 𝓤 (r ≡ verdictReplyOf (verifyOn (modelOf (a .0)) (now (a .1 .0)) (now (a .1 .1 .0)))))
     verify-answers = one
 
-    pub verify-clears : ent 𝓤 Verify (fact 𝓤 ((r .number ≡ 0) ↔ Clear upd17132 (now (a .0)) (now (a .1 .0))))
+    pub verify-clears : ent 𝓤 Verify (fact 𝓤 ((r .number ≡ 0) ↔ ClearOn (modelOf (a .0)) (now (a .1 .0)) (now (a .1 .1 .0))))
     verify-clears = two
 
-    pub verify-saves : ent 𝓤 Verify (fact 𝓤 (r .number ≡ 0 → Safe upd17132 (now (a .0)) (now (a .1 .0))))
+    pub verify-saves : ent 𝓤 Verify (fact 𝓤 (r .number ≡ 0 → SafeOn (modelOf (a .0)) (now (a .1 .0)) (now (a .1 .1 .0))))
     verify-saves = three
 
   module _ (κs : Lfts 0) (a : Args decode.signature κs) (r : Res decode.signature κs) (e : AtExit decode.ended κs) where

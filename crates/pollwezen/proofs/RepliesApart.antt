@@ -9,7 +9,7 @@ use borrow.Author.Tests.{ne-eqb}
 use lib.Dec.{eqb, leb}
 use Rattle.machine.specs.Refusals.{numberOf}
 use Rattle.machine.specs.declared.Refusal.{Refusal}
-use Rattle.machine.specs.declared.Refusal.the-variants.{OutOfRange, PastRom, NoInstruction, Unsupported, NoRegister, BadTarget, StackFull, StackEmpty, PastTable}
+use Rattle.machine.specs.declared.Refusal.the-variants.{OutOfRange, PastRom, NoInstruction, Unsupported, NoRegister, BadTarget, StackFull, StackEmpty, PastTable, MissingCell}
 use Rattle.station_file.proofs.FileNumbers.{numbered, numbered-again, file-number}
 use Rattle.station_file.specs.Answers.{fileNumber, readReply, writeReply}
 use Rattle.station_file.specs.declared.FileRefusal.{FileRefusal}
@@ -90,6 +90,7 @@ not-of-file BadTarget = refl
 not-of-file StackFull = refl
 not-of-file StackEmpty = refl
 not-of-file PastTable = refl
+not-of-file MissingCell = refl
 
 pub replies-apart : RepliesApart
 replies-apart = record {

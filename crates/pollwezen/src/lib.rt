@@ -8,13 +8,7 @@ ghost use mathlib.Core.Path.{_≡_};
 ghost use mathlib.Core.Logic.{_↔_};
 ghost use Prim.Native.Nat.{_≤_};
 ghost use lib.ListN.{length};
-ghost use Rattle.memory.specs.Chip.{upd17132};
-ghost use Rattle.machine.specs.Parts.{resetMachine};
 ghost use Rattle.machine.specs.Signals.{signals};
-ghost use Rattle.cpu.specs.Run.{runOf};
-ghost use Rattle.cpu.specs.Step.{stepOf};
-ghost use Rattle.clearance.specs.Safe.{Safe};
-ghost use Rattle.verifier.specs.Verdict.{Clear, verifyOf};
 ghost use Rattle.listing.specs.Rows.{decodedRowOf, encodedRowOf};
 ghost use Rattle.listing.specs.Table.{fields};
 ghost use Rattle.station_file.specs.Answers.{buffersOf, stationOf};
@@ -24,14 +18,18 @@ ghost use Rattle.station_file.specs.Write.{writeOf};
 ghost use Rattle.transcript.specs.Print.{printOf};
 ghost use Rattle.transcript.specs.Transcript.{transcriptOf};
 ghost use Rattle.pollwezen.specs.Lent.{lentRun, lentRunOf, lentStep, lentStepOf};
+ghost use Rattle.pollwezen.specs.Models.{modelOf, ClearOn, SafeOn, resetOn, runOn, stepOn, verifyOn};
 ghost use Rattle.pollwezen.specs.Replies.{printReplyOf, readReplyOf, verdictReplyOf, writeReplyOf};
+use calls::reset_by_value;
 use calls::run_by_value;
+use calls::selected;
 use calls::step_by_parts;
 use cpu::Count;
 use listing::DecodedRow;
 use listing::EncodedRow;
 use machine::Input;
 use machine::Machine;
+use memory::Model;
 
 // A run's steps with their cycles, and its refusal or 0.
 #[repr(C)]
@@ -65,7 +63,13 @@ pub struct OutputReply {
     pub length: usize,
 }
 
-// What a step leaves in the lent record, and its number.
+// The model with a number, if it is one.
+enum Selected {
+    Model(Model),
+    NoModel,
+}
+
+// What reset or a step leaves in the lent record, and its number.
 struct LentStep {
     machine: Machine,
     number: u8,
@@ -77,22 +81,31 @@ struct LentRun {
     reply: RunReply,
 }
 
-// The reset record.
+// The reset record of a model, written over the lent one: 0, or 1 for a number that is no model's, and then the record stays.
 #[no_mangle]
-pub extern "C" fn pollwezen_reset() -> Machine
-    ensures { λ r. ⌜ r ≡ resetMachine ⌝ }
+pub extern "C" fn pollwezen_reset(model: u8, machine: &mut Machine) -> u8
+    ensures { λ r. ⌜ lentStep (now (machine .exit)) r ≡ lentStepOf (resetOn (modelOf model) (now (machine .entry))) ⌝ }
 {
-    Machine::reset()
+    let r = reset_by_value(model, *machine);
+    *machine = r.machine;
+    r.number
 }
 
-// One step on the lent record, with the pulse bit beside its inputs: 0 for a completed step, 255 for one that stays in standby, else
+// One step of a model on the lent record, with the pulse bit beside its inputs: 0 for a completed step, 255 for one that stays in standby, else
 // the refusal.
 #[no_mangle]
-pub extern "C" fn pollwezen_step(rom: &[u16], machine: &mut Machine, input: Input, pulse: u8) -> u8
-    ensures { λ r. ⌜ (lentStep (now (machine .exit)) r ≡ lentStepOf (stepOf upd17132 (now (rom .entry)) (signals input pulse) (now (machine .entry))))
+pub extern "C" fn pollwezen_step(
+    model: u8,
+    rom: &[u16],
+    machine: &mut Machine,
+    input: Input,
+    pulse: u8,
+) -> u8
+    ensures { λ r. ⌜ (lentStep (now (machine .exit)) r ≡ lentStepOf (stepOn (modelOf model) (now (rom .entry)) (signals input pulse) (now (machine .entry))))
         × ((r ≡ 0 → ⊥) → (r ≡ 255 → ⊥) → now (machine .exit) ≡ now (machine .entry)) ⌝ }
 {
     let s = step_by_parts(
+        model,
         rom,
         machine.memory,
         machine.peripherals,
@@ -104,30 +117,34 @@ pub extern "C" fn pollwezen_step(rom: &[u16], machine: &mut Machine, input: Inpu
     s.number
 }
 
-// The counted run on the lent record.
+// The counted run of a model on the lent record.
 #[no_mangle]
 pub extern "C" fn pollwezen_run(
+    model: u8,
     rom: &[u16],
     machine: &mut Machine,
     input: Input,
     pulse: u8,
     budget: u32,
 ) -> RunReply
-    ensures { λ r. ⌜ lentRun (now (machine .exit)) r ≡ lentRunOf (runOf upd17132 (now (rom .entry)) (signals input pulse) budget (now (machine .entry))) ⌝ }
+    ensures { λ r. ⌜ lentRun (now (machine .exit)) r ≡ lentRunOf (runOn (modelOf model) (now (rom .entry)) (signals input pulse) budget (now (machine .entry))) ⌝ }
 {
-    let r = run_by_value(rom, *machine, input, pulse, budget);
+    let r = run_by_value(model, rom, *machine, input, pulse, budget);
     *machine = r.machine;
     r.reply
 }
 
-// The check of a ROM and its sheet, one level a word. The last promise is demand 3, of these entries too.
+// The check of a ROM and its sheet, one level a word, for a model. The last promise is demand 3 on that model, of these entries too.
 #[no_mangle]
-pub extern "C" fn pollwezen_verify(rom: &[u16], sheet: &[u8]) -> VerdictReply
-    ensures { λ r. ⌜ r ≡ verdictReplyOf (verifyOf upd17132 (now (rom .entry)) (now (sheet .entry))) ⌝ }
-    ensures { λ r. ⌜ (r .number ≡ 0) ↔ Clear upd17132 (now (rom .entry)) (now (sheet .entry)) ⌝ }
-    ensures { λ r. ⌜ (r .number ≡ 0 → Safe upd17132 (now (rom .entry)) (now (sheet .entry))) ⌝ }
+pub extern "C" fn pollwezen_verify(model: u8, rom: &[u16], sheet: &[u8]) -> VerdictReply
+    ensures { λ r. ⌜ r ≡ verdictReplyOf (verifyOn (modelOf model) (now (rom .entry)) (now (sheet .entry))) ⌝ }
+    ensures { λ r. ⌜ (r .number ≡ 0) ↔ ClearOn (modelOf model) (now (rom .entry)) (now (sheet .entry)) ⌝ }
+    ensures { λ r. ⌜ (r .number ≡ 0 → SafeOn (modelOf model) (now (rom .entry)) (now (sheet .entry))) ⌝ }
 {
-    replies::of_verdict(verifier::verify(rom, sheet))
+    let Selected::Model(known) = selected(model) else {
+        return replies::of_no_model();
+    };
+    replies::of_verdict(verifier::verify(known, rom, sheet))
 }
 
 // A word's row in the manual's list and its operands, or 3.

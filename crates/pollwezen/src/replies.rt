@@ -2,7 +2,7 @@
 ghost use mathlib.Core.Path.{_≡_};
 ghost use Rattle.station_file.specs.Answers.{readReply, writeReply};
 ghost use Rattle.transcript.specs.Answers.{printReply};
-ghost use Rattle.verifier.specs.Verdict.{answerOf};
+ghost use Rattle.verifier.specs.Verdict.{answerOf, refused};
 ghost use Rattle.pollwezen.specs.Replies.{printReplyOf, readReplyOf, verdictReplyOf, writeReplyOf};
 use crate::OutputReply;
 use crate::ReadReply;
@@ -39,6 +39,13 @@ pub(crate) fn of_verdict(verdict: Verdict) -> VerdictReply
         Verdict::RomLength => unnamed(number),
         Verdict::SheetLength => unnamed(number),
     }
+}
+
+// The check's answer where the number is no model's.
+pub(crate) fn of_no_model() -> VerdictReply
+    ensures { λ r. ⌜ r ≡ verdictReplyOf (refused 1) ⌝ }
+{
+    unnamed(1)
 }
 
 // The reader's answer.

@@ -31,11 +31,11 @@ use Rattle.peripherals.specs.Registers.{inFile}
 use Rattle.peripherals.specs.Table.{TMC, TMM}
 use Rattle.peripherals.specs.declared.Peripherals.{Peripherals}
 use Rattle.operations.specs.Data.{Data, Sources, readAt}
-use Rattle.operations.specs.Operands.{Operand, none, direct, register, indirect, file, ar, impliedByAlu, impliedBySkip, operandsOf, addressIn, addressesOf}
+use Rattle.operations.specs.Operands.{Operand, none, direct, register, indirect, file, ar, impliedByAlu, impliedBySkip, operandsOf, addressIn, addressesOf, lacksAt}
 use Rattle.operations.specs.Settings.{settingsOf}
 use Rattle.operations.specs.Writes.{flagsAfter, arithmeticWrites, resultWrites, rotateWrites, skipWrites, pokeWrites, aluWrites, transferWrites, fileAt, writesAt, writesOf, holdsAt, holdsOf}
 use Rattle.operations.specs.declared.Addresses.{Addresses}
-use Rattle.cpu.specs.Execute.{dataOf, sourcesOf, pastTable, transferBy, executeOf}
+use Rattle.cpu.specs.Execute.{dataOf, sourcesOf, lacksOf, pastTable, transferBy, executeOf}
 use Rattle.cpu.specs.Reply.{Reply, done, refused, completedStep, refusedStep}
 use Rattle.step_laws.specs.ReadLaw.{addressedBy, ReadsResult, alu-r, alu-m, rorc, AgreeAt, ReadAlike, Pointed, Agree, ReadLaw}
 use Rattle.step_laws.specs.StepLaws.{writesBy}
@@ -132,6 +132,29 @@ module _ (chip : Chip) (d e : Data) where
       indirect-same c o m _ _ (h .1 .0) (h .1 .1 .0) (address-same c o m (h .0) (h .1 .1 .0) (h .1 .1 .1 .0)) column
   operand-same (file rf) h x = refl
 
+  -- the register that gives @r its column, where there is one
+  pointer-same : (i : Instruction) → AgreeAt (addressedBy (operandsOf i .to)) c o → AgreeAt (addressedBy (operandsOf i .from)) c o
+      → addressIn chip d (operandsOf i .pointer) ≡ addressIn chip e (operandsOf i .pointer)
+  unfolding addressIn
+  pointer-same (AluRegister op r m) h k = refl
+  pointer-same (AluImmediate op m n4) h k = refl
+  pointer-same (Skip op m n4) h k = refl
+  pointer-same (Rorc r) h k = refl
+  pointer-same (Ld r m) h k = refl
+  pointer-same (St m r) h k = refl
+  pointer-same (MovToIndirect r m) h k = register-same c o r (h .1 .1 .1 .1 .0)
+  pointer-same (MovFromIndirect m r) h k = register-same c o r (k .1 .1 .1 .1 .0)
+  pointer-same (MovImmediate m n4) h k = refl
+  pointer-same (Peek rf) h k = refl
+  pointer-same (Poke rf) h k = refl
+  pointer-same (Get p) h k = refl
+  pointer-same (Put p) h k = refl
+  pointer-same (Br addr) h k = refl
+  pointer-same (Call addr) h k = refl
+  pointer-same (Stop s) h k = refl
+  pointer-same (Halt s) h k = refl
+  pointer-same (Fixed op) h k = refl
+
   -- an operation on what stands at an address
   operated : (op : AluOp) (at b b' : ℕ) → readAt chip d at ≡ readAt chip e at → b ≡ b' → Agrees c o PSW → Agrees c o RPL
       → arithmeticWrites c at (operateOf op (isSet c RPL BCD) (readAt chip d at) b (isSet c PSW CY))
@@ -213,21 +236,24 @@ module _ (chip : Chip) (d e : Data) where
     alike (Fixed Di) from to h peeked got = plain refl
     alike (Fixed Nop) from to h peeked got = plain refl
 
--- what an instruction answers, by its refusal and by refusal 8
-abbrev answerBy : ℕ → Bool → Reply
-answerBy n past = cond (eqb n 0) (cond past (refused 8) done) (refused n)
+-- what an instruction answers, by its refusal and by refusals 8 and 31
+abbrev answerBy : ℕ → Bool → Bool → Reply
+answerBy n past lacks = cond (eqb n 0) (cond past (refused 8) (cond lacks (refused 31) done)) (refused n)
 
-answered : (b past : Bool) (n : ℕ) (m next : Machine)
-    → cond b (cond past (refusedStep 8 m) (completedStep next)) (refusedStep n m) .reply ≡ cond b (cond past (refused 8) done) (refused n)
-answered true true n m next = refl
-answered true false n m next = refl
-answered false past n m next = refl
+answered : (b past lacks : Bool) (n : ℕ) (m next : Machine)
+    → cond b (cond past (refusedStep 8 m) (cond lacks (refusedStep 31 m) (completedStep next))) (refusedStep n m) .reply
+    ≡ cond b (cond past (refused 8) (cond lacks (refused 31) done)) (refused n)
+answered true true lacks n m next = refl
+answered true false true n m next = refl
+answered true false false n m next = refl
+answered false past lacks n m next = refl
 
 module _ (chip : Chip) (rom : List ℕ) (signals : Signals) where
   replied : (i : Instruction) (m : Machine)
-      → executeOf chip rom signals i m .reply ≡ answerBy (transferBy chip rom signals i m .refusal) (pastTable rom (arOf (cellsOf m)) (flowOf i))
+      → executeOf chip rom signals i m .reply
+      ≡ answerBy (transferBy chip rom signals i m .refusal) (pastTable rom (arOf (cellsOf m)) (flowOf i)) (lacksOf chip rom signals i m)
   unfolding executeOf
-  replied i m = answered (eqb (transferBy chip rom signals i m .refusal) 0) (pastTable rom (arOf (cellsOf m)) (flowOf i)) _ m _
+  replied i m = answered (eqb (transferBy chip rom signals i m .refusal) 0) (pastTable rom (arOf (cellsOf m)) (flowOf i)) (lacksOf chip rom signals i m) _ m _
 
 module _ (chip : Chip) (rom : List ℕ) (s t : Signals) where
   module _ (i : Instruction) (m : Machine) (others : List ℕ) (p : Peripherals) (h : Agree chip s t i m (machineOf others p (m .control))) where
@@ -246,9 +272,16 @@ module _ (chip : Chip) (rom : List ℕ) (s t : Signals) where
     from-found : addressIn chip f (operandsOf i .from) ≡ addressIn chip g (operandsOf i .from)
     from-found = operand-same chip f g (operandsOf i .from) (h .from) (h .from-pointer)
 
+    pointer-found : addressIn chip f (operandsOf i .pointer) ≡ addressIn chip g (operandsOf i .pointer)
+    pointer-found = pointer-same chip f g i (h .to) (h .from)
+
     found : addressesOf chip f i ≡ addressesOf chip g i
     unfolding addressesOf
-    found = rw (to-found, from-found)
+    found = rw (to-found, from-found, pointer-found)
+
+    lacks : lacksOf chip rom s i m ≡ lacksOf chip rom t i n
+    unfolding lacksOf
+    lacks = ap (lacksAt chip) found
 
     likened : Alike chip f g rom (m .control) (addressesOf chip f i) (topOf (m .control)) (m .peripherals .counter) (p .counter) i
     unfolding addressesOf
@@ -272,5 +305,7 @@ module _ (chip : Chip) (rom : List ℕ) (s t : Signals) where
     settings = settings-same (cellsOf m) others i (h .implied);
     holds = holds i m others p h;
     transfer = transfer i m others p h;
-    reply = replied chip rom s i m ∙ ap₂ answerBy (ap (λ (t : Transfer). t .refusal) (transfer i m others p h)) (likened i m others p h .1 .1 .1) ∙ sym (replied chip rom t i _);
+    reply =
+        replied chip rom s i m
+        ∙ rw (transfer i m others p h, likened i m others p h .1 .1 .1, lacks i m others p h) (sym (replied chip rom t i (machineOf others p (m .control))));
   }

@@ -16,7 +16,7 @@ use Rattle.machine.specs.Signals.{Signals}
 use Rattle.machine.specs.declared.Machine.{Machine}
 use Rattle.cpu.specs.Cost.{none, plus, costOf}
 use Rattle.cpu.specs.Cycles.{nextCycles}
-use Rattle.cpu.specs.Execute.{writtenOf, transferBy, executeOf}
+use Rattle.cpu.specs.Execute.{writtenOf, transferBy, executeOf, lacksOf}
 use Rattle.cpu.specs.Reply.{Step, refusedStep}
 use Rattle.cpu.specs.Run.{Run, afterStep, ended, runFrom, runOf}
 use Rattle.cpu.specs.Step.{woken, tickedBy, stoodBy, unlessRefused, decodedOf, passOver, fetchOf, waits, advanceOf, stepOf}
@@ -29,7 +29,7 @@ module _ (chip : Chip) (rom : List ℕ) (s : Signals) (directions : List ℕ) wh
   t = directed directions s
 
   executed : (i : Instruction) (m : Machine) → executeOf chip rom t i m ≡ executeOf chip rom s i m
-  unfolding executeOf transferBy writtenOf
+  unfolding executeOf lacksOf transferBy writtenOf
   executed i m = refl
 
   decoded : (m : Machine) (d : Decoding) → decodedOf chip rom t m d ≡ decodedOf chip rom s m d

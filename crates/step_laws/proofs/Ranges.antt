@@ -4,9 +4,10 @@ use mathlib.Core.Path.{_≡_}
 use mathlib.Core.Bool.{true, _&&_}
 use mathlib.Core.List.{List}
 use Prim.Native.Nat.{ℕ, zero, suc}
-use lib.Dec.{lit≤}
 use Rattle.laws.proofs.Booleans.{either}
-use Rattle.memory.specs.Chip.{Chip, upd17132}
+use Rattle.memory.specs.Chip.{Chip, chipOf}
+use Rattle.memory.specs.declared.Model.{Model}
+use Rattle.memory.proofs.Numbers.{levels-fit}
 use Rattle.machine.specs.Ranges.{machineInRange, allInRange, budgetInRange}
 use Rattle.machine.specs.Signals.{Signals}
 use Rattle.machine.specs.declared.Machine.{Machine}
@@ -43,10 +44,10 @@ module _ (chip : Chip) (rom : List ℕ) (signals : Signals) (P : Machine → Typ
   runs budget m p =
       either Q (allInRange chip rom m signals && budgetInRange budget) (runFrom chip rom signals budget none m) (ended none 1 m) (from budget none m p) p
 
-pub range-laws : RangeLaws upd17132
-range-laws =
-    let step = steps upd17132 (lit≤ tt) ar-fits in
+pub range-laws : (model : Model) → RangeLaws (chipOf model)
+range-laws model =
+    let step = steps (chipOf model) (levels-fit model) (ar-fits model) in
     record {
       step = step;
-      run = λ rom signals. runs upd17132 rom signals (λ (m : Machine). machineInRange upd17132 m ≡ true) (step rom signals);
+      run = λ rom signals. runs (chipOf model) rom signals (λ (m : Machine). machineInRange (chipOf model) m ≡ true) (step rom signals);
     }

@@ -10,7 +10,8 @@ use native.Mathlib.Omega.{arith}
 use borrow.Author.Tests.{ltb-true, ltb-false}
 use lib.Dec.{ltb}
 use Rattle.laws.proofs.Booleans.{either}
-use Rattle.memory.specs.Chip.{Chip, upd17132}
+use Rattle.memory.specs.Chip.{Chip, chipOf}
+use Rattle.memory.specs.declared.Model.{Model}
 use Rattle.machine.specs.Ranges.{allInRange, budgetInRange}
 use Rattle.machine.specs.Signals.{Signals}
 use Rattle.machine.specs.declared.Machine.{Machine}
@@ -145,5 +146,5 @@ module _ (chip : Chip) (laws : RangeLaws chip) (rom : List ℕ) (signals : Signa
     joined = λ n k b c w. ⊎-elim (joined-none n k) (joined-on n k (start n) b c) w;
   }
 
-pub run-laws-17132 : (rom : List ℕ) (signals : Signals) (m : Machine) → RunLaws upd17132 rom signals m
-run-laws-17132 = run-laws upd17132 range-laws
+pub run-laws-of : (model : Model) (rom : List ℕ) (signals : Signals) (m : Machine) → RunLaws (chipOf model) rom signals m
+run-laws-of model = run-laws (chipOf model) (range-laws model)

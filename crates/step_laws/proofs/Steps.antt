@@ -23,7 +23,7 @@ use Rattle.machine.specs.declared.Machine.{Machine}
 use Rattle.control.specs.Flow.{flowOf}
 use Rattle.peripherals.specs.Timer.{tickOf}
 use Rattle.cpu.specs.Cycles.{nextCycles}
-use Rattle.cpu.specs.Execute.{pastTable, transferBy, writtenOf, setOf, executeOf}
+use Rattle.cpu.specs.Execute.{lacksOf, pastTable, transferBy, writtenOf, setOf, executeOf}
 use Rattle.cpu.specs.Reply.{done, inStandby, refused, Step, completedStep, standingStep, refusedStep}
 use Rattle.cpu.specs.Step.{waits, tickedBy, stoodBy, woken, unlessRefused, decodedOf, passOver, fetchOf, advanceOf, stepOf}
 use Rattle.cpu.proofs.Costs.{skipped-cycles}
@@ -56,7 +56,9 @@ module _ (chip : Chip) (rom : List ℕ) (signals : Signals) where
   settled P i m off on =
       let t = transferBy chip rom signals i m in
       either P (eqb (t .refusal) 0) _ (refusedStep (t .refusal) m)
-      (either P (pastTable rom (arOf (cellsOf m)) (flowOf i)) (refusedStep 8 m) _ (off 8) on) (off (t .refusal))
+      (either P (pastTable rom (arOf (cellsOf m)) (flowOf i)) (refusedStep 8 m) _ (off 8)
+      (either P (lacksOf chip rom signals i m) (refusedStep 31 m) _ (off 31) on))
+      (off (t .refusal))
 
   module _ (m : Machine) where
     -- the timer's cycles come last

@@ -14,6 +14,7 @@ use cpu::Count;
 use machine::Input;
 use machine::Machine;
 use machine::Refusal;
+use memory::Model;
 
 fn refusal_number(refusal: Refusal) -> u16
     ensures { λ r. ⌜ r ≡ numberOf refusal ⌝ }
@@ -78,7 +79,7 @@ fn put_record(
     let before = progress.machine;
     let control = before.control;
     let pc = control.pc;
-    let stepped = cpu::step(rom, before, input, 0);
+    let stepped = cpu::step(Model::Upd17132, rom, before, input, 0);
     let answer = stepped.answer;
     let after = stepped.machine;
     let cost = stepped.count;

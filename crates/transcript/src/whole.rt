@@ -8,6 +8,7 @@ use crate::line::put_end;
 use crate::line::put_failure;
 use crate::put::put;
 use crate::steps::put_records;
+use memory::Model;
 use verifier::Verdict;
 
 // The line of the check; a sheet of no entries is not checked.
@@ -18,7 +19,7 @@ fn put_sheet(rom: &[u16], sheet: &[u8], out: &mut [u8]) -> usize
     if sheet.len() == 0 {
         return put(out, at, b"NONE\n");
     }
-    match verifier::verify(rom, sheet) {
+    match verifier::verify(Model::Upd17132, rom, sheet) {
         Verdict::Pass => put(out, at, b"PASS\n"),
         Verdict::Fail { word, rule } => put_failure(out, at, word, rule),
         Verdict::RomLength => put(out, at, b"NONE\n"),

@@ -12,7 +12,7 @@ use lib.Dec.{ltb}
 use lib.ListN.{length}
 use Rattle.laws.proofs.Booleans.{not-passed}
 use Rattle.laws.proofs.First.{Clear, First, first-is}
-use Rattle.memory.specs.Chip.{Chip, upd17132}
+use Rattle.memory.specs.Chip.{Chip}
 use Rattle.machine.specs.Ranges.{romInRange}
 use Rattle.control.specs.declared.Flow.{Flow}
 use Rattle.sheet.specs.Entry.{Entry, entryAt, reached}
@@ -35,17 +35,17 @@ module _ (chip : Chip) (rom sheet : List ℕ) (w : ℕ) (f : Flow) (e : Entry) w
       let q : r - 3 + 3 ≡ r = omega arith in
       subst (λ (x : ℕ). ruleOf chip rom sheet w f e x ≡ true) q (unreached-from (r - 3) (omega arith) n)
 
-module _ (rom sheet : List ℕ) where
+module _ (chip : Chip) (rom sheet : List ℕ) where
   abbrev R : ℕ → ℕ → Bool
-  R w k = ruleHolds upd17132 rom sheet w (suc k)
+  R w k = ruleHolds chip rom sheet w (suc k)
 
   abbrev W : ℕ → Bool
-  W w = wordHolds upd17132 rom sheet w
+  W w = wordHolds chip rom sheet w
 
   -- a rule of a word's own flow and entry
   pub of-word : (w : ℕ) (f : Flow) (e : Entry) (r : ℕ) (found b : Bool) → f ≡ flowAt rom w → e ≡ entryAt sheet w
-      → found ≡ ruleOf upd17132 rom sheet w f e r → found ≡ b → ruleHolds upd17132 rom sheet w r ≡ b
-  of-word w f e r found b p q h k = sym (ap (λ (x : Flow). ruleOf upd17132 rom sheet w x e r) p ∙ ap (λ (x : Entry). ruleOf upd17132 rom sheet w (flowAt rom w) x r) q) ∙ sym h ∙ k
+      → found ≡ ruleOf chip rom sheet w f e r → found ≡ b → ruleHolds chip rom sheet w r ≡ b
+  of-word w f e r found b p q h k = sym (ap (λ (x : Flow). ruleOf chip rom sheet w x e r) p ∙ ap (λ (x : Entry). ruleOf chip rom sheet w (flowAt rom w) x r) q) ∙ sym h ∙ k
 
   -- the rules below a number hold at a word, and all rules at the words below one
   abbrev pub RulesTo : ℕ → ℕ → Type 0
@@ -60,18 +60,18 @@ module _ (rom sheet : List ℕ) where
   pub no-word : WordsTo 0
   no-word i l u = absurd (not-suc-le-zero u)
 
-  pub rule-more : (w rule : ℕ) → 1 ≤ rule → RulesTo w rule → ruleHolds upd17132 rom sheet w rule ≡ true → RulesTo w (rule + 1)
+  pub rule-more : (w rule : ℕ) → 1 ≤ rule → RulesTo w rule → ruleHolds chip rom sheet w rule ≡ true → RulesTo w (rule + 1)
   rule-more w rule a c h i l u =
       let m : i ≤ rule - 1 = omega arith in
       ⊎-elim
-      (λ (q : i ≡ rule - 1). let p : rule ≡ suc i = omega arith in subst (λ (x : ℕ). ruleHolds upd17132 rom sheet w x ≡ true) p h)
+      (λ (q : i ≡ rule - 1). let p : rule ≡ suc i = omega arith in subst (λ (x : ℕ). ruleHolds chip rom sheet w x ≡ true) p h)
       (λ (q : i < rule - 1). c i l q)
       (eq-or-lt-of-le m)
 
   word-clear : (w : ℕ) → RulesTo w 7 → W w ≡ true
   word-clear w c =
-      word-holds upd17132 rom sheet w
-      (λ r a b. let q : suc (r - 1) ≡ r = omega arith in subst (λ (x : ℕ). ruleHolds upd17132 rom sheet w x ≡ true) q (c (r - 1) zero-le (omega arith)))
+      word-holds chip rom sheet w
+      (λ r a b. let q : suc (r - 1) ≡ r = omega arith in subst (λ (x : ℕ). ruleHolds chip rom sheet w x ≡ true) q (c (r - 1) zero-le (omega arith)))
 
   pub word-more : (w rule : ℕ) → rule ≡ 7 → RulesTo w rule → WordsTo w → WordsTo (w + 1)
   word-more w rule e c s i l u =
@@ -81,32 +81,32 @@ module _ (rom sheet : List ℕ) where
       (λ (q : i < w). s i l q)
       (eq-or-lt-of-le m)
 
-  first-word : (w : ℕ) → First W 0 (length rom) w → lowestWord upd17132 rom sheet ≡ w
+  first-word : (w : ℕ) → First W 0 (length rom) w → lowestWord chip rom sheet ≡ w
   first-word w f = sym (first-is W 0 (length rom) w (subst (λ (x : ℕ). First W 0 x w) (sym (zero-add (length rom))) f))
 
-  first-rule : (w k : ℕ) → First (R w) 0 6 k → lowestRule upd17132 rom sheet w ≡ suc k
+  first-rule : (w k : ℕ) → First (R w) 0 6 k → lowestRule chip rom sheet w ≡ suc k
   first-rule w k f = ap suc (sym (first-is (R w) 0 6 k f))
 
   -- ROMs that refusal 1 meets, and those that it does not
-  pub empty : length rom ≡ 0 → refused 1 ≡ verifyOf upd17132 rom sheet
+  pub empty : length rom ≡ 0 → refused 1 ≡ verifyOf chip rom sheet
   unfolding verifyOf romInRange
   empty e = rw e refl
 
-  pub long : 1024 < length rom → refused 1 ≡ verifyOf upd17132 rom sheet
+  pub long : chip .words < length rom → refused 1 ≡ verifyOf chip rom sheet
   unfolding verifyOf romInRange
-  long h = rw (lt-ltb 0 (length rom) (omega arith), lt-leb (length rom) 1024 h) refl
+  long h = rw (lt-ltb 0 (length rom) (omega arith), lt-leb (length rom) (chip .words) h) refl
 
-  module _ (some : length rom ≡ 0 → ⊥) (few : length rom ≤ 1024) where
-    whole : romInRange upd17132 rom ≡ true
+  module _ (some : length rom ≡ 0 → ⊥) (few : length rom ≤ chip .words) where
+    whole : romInRange chip rom ≡ true
     unfolding romInRange
-    whole = rw (lt-ltb 0 (length rom) (omega arith), le-leb (length rom) 1024 few) refl
+    whole = rw (lt-ltb 0 (length rom) (omega arith), le-leb (length rom) (chip .words) few) refl
 
-    pub unlike : (length sheet ≡ length rom → ⊥) → refused 9 ≡ verifyOf upd17132 rom sheet
+    pub unlike : (length sheet ≡ length rom → ⊥) → refused 9 ≡ verifyOf chip rom sheet
     unfolding verifyOf
     unlike n = rw (whole, ne-eqb (length sheet) (length rom) n) refl
 
     module _ (same : length sheet ≡ length rom) where
-      pub passes : (w : ℕ) → w ≡ length rom → WordsTo w → pass ≡ verifyOf upd17132 rom sheet
+      pub passes : (w : ℕ) → w ≡ length rom → WordsTo w → pass ≡ verifyOf chip rom sheet
       unfolding verifyOf ruled
       passes w e s =
           let first : First W 0 (length rom) (length rom) = record {
@@ -115,32 +115,32 @@ module _ (rom sheet : List ℕ) where
             clear = subst WordsTo e s;
             fails = λ h. absurd (omega arith);
           } in
-          let at : lowestWord upd17132 rom sheet ≡ length rom = first-word (length rom) first in
-          let over : ltb (lowestWord upd17132 rom sheet) (length rom) ≡ false = le-ltb (lowestWord upd17132 rom sheet) (length rom) (omega arith) in
+          let at : lowestWord chip rom sheet ≡ length rom = first-word (length rom) first in
+          let over : ltb (lowestWord chip rom sheet) (length rom) ≡ false = le-ltb (lowestWord chip rom sheet) (length rom) (omega arith) in
           rw (whole, eq-eqb (length sheet) (length rom) same, over) refl
 
       module _ (w rule : ℕ) (inside : w < length rom) (s : WordsTo w) (lo : 1 ≤ rule) (hi : rule ≤ 6) (c : RulesTo w rule)
-          (broken : ruleHolds upd17132 rom sheet w rule ≡ false) where
+          (broken : ruleHolds chip rom sheet w rule ≡ false) where
         breaks : W w ≡ false
         breaks =
             not-passed (W w)
             (λ (q : W w ≡ true).
-            let h : ruleHolds upd17132 rom sheet w rule ≡ true = rule-holds upd17132 rom sheet w rule q lo hi in
+            let h : ruleHolds chip rom sheet w rule ≡ true = rule-holds chip rom sheet w rule q lo hi in
             let z : _≡_ {A = ℕ} 0 1 = cc in
             omega arith)
 
-        pub fails : fail w rule ≡ verifyOf upd17132 rom sheet
+        pub fails : fail w rule ≡ verifyOf chip rom sheet
         unfolding verifyOf ruled
         fails =
             let up : suc (rule - 1) ≡ rule = omega arith in
-            let word : lowestWord upd17132 rom sheet ≡ w = first-word w (record { low = zero-le; high = omega arith; clear = s; fails = λ _. breaks }) in
-            let lowest : lowestRule upd17132 rom sheet w ≡ rule
+            let word : lowestWord chip rom sheet ≡ w = first-word w (record { low = zero-le; high = omega arith; clear = s; fails = λ _. breaks }) in
+            let lowest : lowestRule chip rom sheet w ≡ rule
             = first-rule w (rule - 1)
             (record {
               low = zero-le;
               high = omega arith;
               clear = c;
-              fails = λ _. subst (λ (x : ℕ). ruleHolds upd17132 rom sheet w x ≡ false) (sym up) broken;
+              fails = λ _. subst (λ (x : ℕ). ruleHolds chip rom sheet w x ≡ false) (sym up) broken;
             })
             ∙ up in
             rw (whole, eq-eqb (length sheet) (length rom) same, word, lt-ltb w (length rom) inside, lowest) refl

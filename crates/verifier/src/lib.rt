@@ -1,4 +1,5 @@
 // The level sheet check. A ROM that passes it with its sheet never runs into a refusal of its own.
+mod entries;
 mod reading;
 mod rules;
 mod verification;
@@ -7,15 +8,12 @@ ghost use mathlib.Core.Path.{_≡_};
 ghost use Rattle.verifier.specs.Verdict.{answerOf, verdictNumber};
 pub use verification::verify;
 
-// The levels of the chip's address stack.
-const LEVELS: u8 = 5;
-
 // What the check answers.
 pub enum Verdict {
     Pass,
     // The lowest word that breaks a clearance rule, and its lowest rule.
     Fail { word: u16, rule: u8 },
-    // The ROM has not 1 to 1,024 words: refusal 1.
+    // The ROM has no word, or more than the model allows: refusal 1.
     RomLength,
     // The sheet's length differs from the ROM's: refusal 9.
     SheetLength,

@@ -2,15 +2,15 @@
 ghost use mathlib.Core.Path.{_≡_};
 ghost use Prim.Native.Nat.{_≤_};
 ghost use lib.ListN.{length};
-ghost use Rattle.memory.specs.Chip.{upd17132};
+ghost use Rattle.memory.specs.Chip.{chipOf};
 ghost use Rattle.control.specs.Flow.{wordFlow};
 ghost use Rattle.clearance.specs.Rules.{isReturnSkip, flowAt, met};
 ghost use Rattle.verifier.specs.ReturnDepths.{ReturnDepths};
-use crate::LEVELS;
+use crate::entries::has_all_of;
+use crate::entries::with_depths;
 use control::Flow;
+use memory::Model;
 use sheet::entry_at;
-use sheet::has_all_of;
-use sheet::with_depths;
 
 // The flow of a word; past the ROM there is no instruction.
 pub(crate) fn flow_at(rom: &[u16], word: u16) -> Flow
@@ -24,13 +24,13 @@ pub(crate) fn flow_at(rom: &[u16], word: u16) -> Flow
 }
 
 // Whether a word that a rule names lies in the ROM and its entry covers what is asked.
-pub(crate) fn is_met(rom: &[u16], sheet: &[u8], word: u16, asked: u8) -> bool
-    ensures { λ r. ⌜ r ≡ met upd17132 (now (rom .entry)) (now (sheet .entry)) (record { word = word; entry = asked }) ⌝ }
+pub(crate) fn is_met(model: Model, rom: &[u16], sheet: &[u8], word: u16, asked: u8) -> bool
+    ensures { λ r. ⌜ r ≡ met (chipOf model) (now (rom .entry)) (now (sheet .entry)) (record { word = word; entry = asked }) ⌝ }
 {
     if rom.len() <= word as usize {
         return false;
     }
-    has_all_of(LEVELS, entry_at(sheet, word), asked)
+    has_all_of(model, entry_at(sheet, word), asked)
 }
 
 // RETSK's word.
@@ -54,15 +54,15 @@ fn return_skip_at(rom: &[u16], word: u16) -> bool
 }
 
 // The depths that some reached RETSK holds, in one pass over the ROM.
-pub(crate) fn return_depths(rom: &[u16], sheet: &[u8]) -> [bool; 6]
+pub(crate) fn return_depths(model: Model, rom: &[u16], sheet: &[u8]) -> [bool; 6]
     requires { ⌜ length (now rom) ≤ 1024 ⌝ }
-    ensures { λ r. ⌜ ReturnDepths upd17132 (now (rom .entry)) (now (sheet .entry)) r ⌝ }
+    ensures { λ r. ⌜ ReturnDepths (chipOf model) (now (rom .entry)) (now (sheet .entry)) r ⌝ }
 {
     let mut depths = [false; 6];
     let mut word: u16 = 0;
     while (word as usize) < rom.len() {
         if return_skip_at(rom, word) {
-            let more = with_depths(LEVELS, depths, entry_at(sheet, word));
+            let more = with_depths(model, depths, entry_at(sheet, word));
             depths = more;
         }
         word += 1;

@@ -2,52 +2,52 @@
 ghost use mathlib.Core.Path.{_≡_};
 ghost use mathlib.Core.List.{[], _∷_};
 ghost use Prim.Native.Nat.{_≤_};
-ghost use Rattle.memory.specs.Chip.{upd17132};
+ghost use Rattle.memory.specs.Chip.{chipOf};
 ghost use Rattle.control.specs.Control.{nextOf};
 ghost use Rattle.clearance.specs.Rules.{allMet, rule1, rule2, rule3, rule4, rule5, rule6, ruleOf};
 ghost use Rattle.verifier.specs.ReturnDepths.{ReturnDepths};
-use crate::LEVELS;
+use crate::entries::has_depth;
+use crate::entries::is_proper;
+use crate::entries::is_reached;
+use crate::entries::leaves_room;
 use crate::reading::is_met;
 use control::Flow;
 use control::next;
+use memory::Model;
 use sheet::at_least;
-use sheet::at_most;
-use sheet::has_depth;
-use sheet::is_proper;
-use sheet::is_reached;
 use sheet::raised;
 use sheet::shares_any;
 
 // Rule 1, of word 0 only.
-fn rule_1(word: u16, entry: u8) -> bool
-    ensures { λ r. ⌜ r ≡ rule1 upd17132 word entry ⌝ }
+fn rule_1(model: Model, word: u16, entry: u8) -> bool
+    ensures { λ r. ⌜ r ≡ rule1 (chipOf model) word entry ⌝ }
 {
     if word != 0 {
         return true;
     }
-    has_depth(LEVELS, entry, 0)
+    has_depth(model, entry, 0)
 }
 
 // Rule 2.
-fn rule_2(entry: u8) -> bool
-    ensures { λ r. ⌜ r ≡ rule2 upd17132 entry ⌝ }
+fn rule_2(model: Model, entry: u8) -> bool
+    ensures { λ r. ⌜ r ≡ rule2 (chipOf model) entry ⌝ }
 {
-    is_proper(LEVELS, entry)
+    is_proper(model, entry)
 }
 
 // MOVT.
-fn table_allowed(rom: &[u16], entry: u8) -> bool
-    ensures { λ r. ⌜ r ≡ rule3 upd17132 (now (rom .entry)) Flow.ReadsTable entry ⌝ }
+fn table_allowed(model: Model, rom: &[u16], entry: u8) -> bool
+    ensures { λ r. ⌜ r ≡ rule3 (chipOf model) (now (rom .entry)) Flow.ReadsTable entry ⌝ }
 {
     if rom.len() != 1024 {
         return false;
     }
-    at_most(LEVELS - 1, entry)
+    leaves_room(model, entry)
 }
 
 // Rule 3.
-fn rule_3(rom: &[u16], flow: Flow, entry: u8) -> bool
-    ensures { λ r. ⌜ r ≡ rule3 upd17132 (now (rom .entry)) flow entry ⌝ }
+fn rule_3(model: Model, rom: &[u16], flow: Flow, entry: u8) -> bool
+    ensures { λ r. ⌜ r ≡ rule3 (chipOf model) (now (rom .entry)) flow entry ⌝ }
 {
     match flow {
         Flow::Onward => true,
@@ -55,7 +55,7 @@ fn rule_3(rom: &[u16], flow: Flow, entry: u8) -> bool
         Flow::Branches(_) => true,
         Flow::Calls(_) => true,
         Flow::Returns(_) => true,
-        Flow::ReadsTable => table_allowed(rom, entry),
+        Flow::ReadsTable => table_allowed(model, rom, entry),
         Flow::StandsBy(_) => true,
         Flow::ByAr(_) => false,
         Flow::Refused(_) => false,
@@ -63,61 +63,77 @@ fn rule_3(rom: &[u16], flow: Flow, entry: u8) -> bool
 }
 
 // The two words that a skip may go to.
-fn skip_met(rom: &[u16], sheet: &[u8], after: u16, entry: u8) -> bool
-    ensures { λ r. ⌜ r ≡ allMet upd17132 (now (rom .entry)) (now (sheet .entry)) (record { word = after; entry = entry } ∷ record { word = nextOf upd17132 after; entry = entry } ∷ []) ⌝ }
+fn skip_met(model: Model, rom: &[u16], sheet: &[u8], after: u16, entry: u8) -> bool
+    ensures { λ r. ⌜ r ≡ allMet (chipOf model) (now (rom .entry)) (now (sheet .entry)) (record { word = after; entry = entry } ∷ record { word = nextOf (chipOf model) after; entry = entry } ∷ []) ⌝ }
 {
-    if !is_met(rom, sheet, after, entry) {
+    if !is_met(model, rom, sheet, after, entry) {
         return false;
     }
-    is_met(rom, sheet, next(after), entry)
+    is_met(model, rom, sheet, next(model, after), entry)
 }
 
 // Rule 4.
-fn rule_4(rom: &[u16], sheet: &[u8], word: u16, flow: Flow, entry: u8) -> bool
-    ensures { λ r. ⌜ r ≡ rule4 upd17132 (now (rom .entry)) (now (sheet .entry)) word flow entry ⌝ }
+fn rule_4(model: Model, rom: &[u16], sheet: &[u8], word: u16, flow: Flow, entry: u8) -> bool
+    ensures { λ r. ⌜ r ≡ rule4 (chipOf model) (now (rom .entry)) (now (sheet .entry)) word flow entry ⌝ }
 {
-    let after = next(word);
+    let after = next(model, word);
     match flow {
-        Flow::Onward => is_met(rom, sheet, after, entry),
-        Flow::Skips => skip_met(rom, sheet, after, entry),
-        Flow::Branches(to) => is_met(rom, sheet, to, entry),
-        Flow::Calls(_) => is_met(rom, sheet, after, entry),
+        Flow::Onward => is_met(model, rom, sheet, after, entry),
+        Flow::Skips => skip_met(model, rom, sheet, after, entry),
+        Flow::Branches(to) => is_met(model, rom, sheet, to, entry),
+        Flow::Calls(_) => is_met(model, rom, sheet, after, entry),
         Flow::Returns(_) => true,
-        Flow::ReadsTable => is_met(rom, sheet, after, entry),
-        Flow::StandsBy(_) => is_met(rom, sheet, after, entry),
+        Flow::ReadsTable => is_met(model, rom, sheet, after, entry),
+        Flow::StandsBy(_) => is_met(model, rom, sheet, after, entry),
         Flow::ByAr(_) => true,
         Flow::Refused(_) => true,
     }
 }
 
 // CALL.
-fn call_allowed(rom: &[u16], sheet: &[u8], depths: [bool; 6], word: u16, to: u16, entry: u8) -> bool
-    requires { ⌜ ReturnDepths upd17132 (now rom) (now sheet) depths ⌝ }
-    ensures { λ r. ⌜ r ≡ rule5 upd17132 (now (rom .entry)) (now (sheet .entry)) word (Flow.Calls to) entry ⌝ }
+fn call_allowed(
+    model: Model,
+    rom: &[u16],
+    sheet: &[u8],
+    depths: [bool; 6],
+    word: u16,
+    to: u16,
+    entry: u8,
+) -> bool
+    requires { ⌜ ReturnDepths (chipOf model) (now rom) (now sheet) depths ⌝ }
+    ensures { λ r. ⌜ r ≡ rule5 (chipOf model) (now (rom .entry)) (now (sheet .entry)) word (Flow.Calls to) entry ⌝ }
 {
-    if !at_most(LEVELS - 1, entry) {
+    if !leaves_room(model, entry) {
         return false;
     }
     let higher = raised(entry);
-    if !is_met(rom, sheet, to, higher) {
+    if !is_met(model, rom, sheet, to, higher) {
         return false;
     }
     if !shares_any(depths, higher) {
         return true;
     }
-    let back = next(word);
-    is_met(rom, sheet, next(back), entry)
+    let back = next(model, word);
+    is_met(model, rom, sheet, next(model, back), entry)
 }
 
 // Rule 5.
-fn rule_5(rom: &[u16], sheet: &[u8], depths: [bool; 6], word: u16, flow: Flow, entry: u8) -> bool
-    requires { ⌜ ReturnDepths upd17132 (now rom) (now sheet) depths ⌝ }
-    ensures { λ r. ⌜ r ≡ rule5 upd17132 (now (rom .entry)) (now (sheet .entry)) word flow entry ⌝ }
+fn rule_5(
+    model: Model,
+    rom: &[u16],
+    sheet: &[u8],
+    depths: [bool; 6],
+    word: u16,
+    flow: Flow,
+    entry: u8,
+) -> bool
+    requires { ⌜ ReturnDepths (chipOf model) (now rom) (now sheet) depths ⌝ }
+    ensures { λ r. ⌜ r ≡ rule5 (chipOf model) (now (rom .entry)) (now (sheet .entry)) word flow entry ⌝ }
 {
     let Flow::Calls(to) = flow else {
         return true;
     };
-    call_allowed(rom, sheet, depths, word, to, entry)
+    call_allowed(model, rom, sheet, depths, word, to, entry)
 }
 
 // Rule 6.
@@ -132,6 +148,7 @@ fn rule_6(flow: Flow, entry: u8) -> bool
 
 // Whether a rule holds, by its number; rules 3 to 6 are those of reached words.
 pub(crate) fn rule_holds(
+    model: Model,
     rom: &[u16],
     sheet: &[u8],
     depths: [bool; 6],
@@ -140,22 +157,22 @@ pub(crate) fn rule_holds(
     entry: u8,
     rule: u8,
 ) -> bool
-    requires { ⌜ ReturnDepths upd17132 (now rom) (now sheet) depths × (1 ≤ rule) × (rule ≤ 6) ⌝ }
-    ensures { λ r. ⌜ r ≡ ruleOf upd17132 (now (rom .entry)) (now (sheet .entry)) word flow entry rule ⌝ }
+    requires { ⌜ ReturnDepths (chipOf model) (now rom) (now sheet) depths × (1 ≤ rule) × (rule ≤ 6) ⌝ }
+    ensures { λ r. ⌜ r ≡ ruleOf (chipOf model) (now (rom .entry)) (now (sheet .entry)) word flow entry rule ⌝ }
 {
     if rule == 1 {
-        return rule_1(word, entry);
+        return rule_1(model, word, entry);
     }
     if rule == 2 {
-        return rule_2(entry);
+        return rule_2(model, entry);
     }
-    if !is_reached(LEVELS, entry) {
+    if !is_reached(model, entry) {
         return true;
     }
     match rule {
-        3 => rule_3(rom, flow, entry),
-        4 => rule_4(rom, sheet, word, flow, entry),
-        5 => rule_5(rom, sheet, depths, word, flow, entry),
+        3 => rule_3(model, rom, flow, entry),
+        4 => rule_4(model, rom, sheet, word, flow, entry),
+        5 => rule_5(model, rom, sheet, depths, word, flow, entry),
         _ => rule_6(flow, entry),
     }
 }

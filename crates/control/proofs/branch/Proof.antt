@@ -6,11 +6,11 @@ use Rattle.control.proofs.branch.Tie as tie
 
 returns : tie.Need-returns
 unfolding branchOf
-returns c = λ stack. simp (le-leb _ _ (c .if1 .taken))
+returns c = λ stack. simp (le-leb _ _ (rw (c .before .addresses .ensures) at (c .if1 .taken)))
 
 returns-2 : tie.Need-returns-2
 unfolding branchOf
-returns-2 c = λ stack. simp (lt-leb _ _ (c .before .if1 .left), c .jump .ensures stack)
+returns-2 c = λ stack. simp (lt-leb _ _ (rw (c .before .before .addresses .ensures) at (c .before .if1 .left)), c .jump .ensures stack)
 
 pub branch-spec : {M : Type 1} → statement M
-branch-spec = tie.close (tie.spec returns (λ c κs. search needs) returns-2)
+branch-spec = tie.close (tie.spec (λ c κs. search needs) returns (λ c κs. search needs) returns-2)

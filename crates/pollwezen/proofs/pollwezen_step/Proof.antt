@@ -42,9 +42,8 @@ use denote.Triple.Clauses.{ensured, lasts}
 use denote.Triple.Table.{entered, cited}
 use denote.Triple.Walked.{says, Stays, stay-ref, stay-none, stay-none-slice, walkOf, goes-ref, goes-none, goes-none-slice, Walks, ends-at, walked, walk-meets}
 use denote.Exit.{yes}
-use Rattle.memory.specs.Chip.{upd17132}
-use Rattle.cpu.specs.Step.{stepOf}
 use Rattle.pollwezen.specs.Lent.{lentStepOf}
+use Rattle.pollwezen.specs.Models.{modelOf, stepOn}
 use Rattle.machine.specs.Signals.{signals}
 use Rattle.machine.specs.declared.Control.{Control}
 use Rattle.machine.specs.declared.Machine.{Machine}
@@ -76,7 +75,7 @@ use Rattle.pollwezen.proofs.pollwezen_step.Statement as stated
 use Rattle.pollwezen.proofs.pollwezen_step.Code as code
 
 abbrev stayed : Stays (ms.ended .signature .params) (ms.ended .kept)
-stayed = (stay-none-slice (0 ∷ []) tt (plain (λ _. u16)) yes, (stay-ref (1 ∷ []) tt (plain (λ _. R.the-row)), (stay-none (λ _. I.the-row) yes, (stay-none (λ _. u8) yes, tt))))
+stayed = (stay-none (λ _. u8) yes, (stay-none-slice (0 ∷ []) tt (plain (λ _. u16)) yes, (stay-ref (1 ∷ []) tt (plain (λ _. R.the-row)), (stay-none (λ _. I.the-row) yes, (stay-none (λ _. u8) yes, tt)))))
 
 -- the machine value of a record, of its three parts, of an input and of a number
 abbrev rv : Machine → Val
@@ -118,7 +117,7 @@ control-is h vs is = LL.owed R.the-type R′.the-laws h vs is .1 .1 .0
 abbrev StepC : {M : Type 1} (𝓤 : URA M) (H : Heap 𝓤) (A : Atoms 𝓤) (mem : Memory → SProp 𝓤) (run : Routine → Fun 𝓤) → Contract 𝓤
 StepC 𝓤 H A mem run = tripleOf 𝓤 H A step.signature (step.spec 𝓤 H A mem run)
 
-module _ {M : Type 1} (𝓤 : URA M) (H : Heap 𝓤) (A : Atoms 𝓤) (W : Given 𝓤 H A) (at-mem : Memory → SProp 𝓤) (run : Routine → Fun 𝓤) (κ κ′ : Lft) (q q′ : Share) (s : RefT (List ℕ)) (b o : ℕ) (γ : GName) (h : Machine) (i : Input) (n : ℕ) (i-is : Is I.the-row i (iv i ∷ [])) (n-is : Is u8 n (ev n ∷ [])) where
+module _ {M : Type 1} (𝓤 : URA M) (H : Heap 𝓤) (A : Atoms 𝓤) (W : Given 𝓤 H A) (at-mem : Memory → SProp 𝓤) (run : Routine → Fun 𝓤) (κ κ′ : Lft) (q q′ : Share) (c : ℕ) (s : RefT (List ℕ)) (b o : ℕ) (γ : GName) (h : Machine) (i : Input) (n : ℕ) (c-is : Is u8 c (ev c ∷ [])) (i-is : Is I.the-row i (iv i ∷ [])) (n-is : Is u8 n (ev n ∷ [])) where
   -- the slice's machine value, and what it owns
   abbrev v : Val
   v = sliceVal (s .ptr) (length (s .now))
@@ -126,87 +125,87 @@ module _ {M : Type 1} (𝓤 : URA M) (H : Heap 𝓤) (A : Atoms 𝓤) (W : Given
   abbrev Own : Fml
   Own = ShrSlice (named 0) κ u16 .own s (v ∷ [])
 
-  abbrev a : RefT (List ℕ) × (RefT Machine × (Input × (ℕ × Unit {0})))
-  a = (s, (record { ptr = (b, o); name = γ; now = h }, (i, (n, tt))))
+  abbrev a : ℕ × (RefT (List ℕ) × (RefT Machine × (Input × (ℕ × Unit {0}))))
+  a = (c, (s, (record { ptr = (b, o); name = γ; now = h }, (i, (n, tt)))))
 
-  abbrev vals : List Val × (List Val × (List Val × (List Val × Unit {0})))
-  vals = (v ∷ [], (vptr b o ∷ [], (iv i ∷ [], (ev n ∷ [], tt))))
+  abbrev vals : List Val × (List Val × (List Val × (List Val × (List Val × Unit {0}))))
+  vals = (ev c ∷ [], (v ∷ [], (vptr b o ∷ [], (iv i ∷ [], (ev n ∷ [], tt)))))
 
   abbrev Post : Val → SProp 𝓤
   Post = walkOf 𝓤 H A ms.ended stayed (ms.clauses 𝓤 H A at-mem run) .post (((κ, (κ′, tt)), (q, (q′, tt)), tt, a, vals), tt)
 
   -- what `step_by_parts` is passed, and what it asks
   abbrev to : StepC 𝓤 H A at-mem run .Ghost
-  to = (((κ, tt), (q, tt), tt, (s, (h .memory, (h .peripherals, (h .control, (i, (n, tt)))))), (v ∷ [], (pv (h .memory) ∷ [], (dv (h .peripherals) ∷ [], (kv (h .control) ∷ [], (iv i ∷ [], (ev n ∷ [], tt))))))), tt)
+  to = (((κ, tt), (q, tt), tt, (c, (s, (h .memory, (h .peripherals, (h .control, (i, (n, tt))))))), (ev c ∷ [], (v ∷ [], (pv (h .memory) ∷ [], (dv (h .peripherals) ∷ [], (kv (h .control) ∷ [], (iv i ∷ [], (ev n ∷ [], tt)))))))), tt)
 
   goes : Is R.the-row h (rv h ∷ []) → ent 𝓤 (sep 𝓤 (A .lft κ q) (sem 𝓤 H A Own)) (StepC 𝓤 H A at-mem run .pre to)
   goes h-is =
       qed W (‵ (flft κ q) ∷ ‵ Own ∷ []) ∵
       nothing ! $ owned ! u8 (Is u8) (uint-makes 𝓤 H A W w8) n _ n-is $ fjoin ! $ owned ! I.the-row (Is I.the-row) (LL.makes I.the-type I′.the-plain 𝓤 H A) i _ i-is $ fjoin ! $ owned ! K.the-row (Is K.the-row) (LL.makes K.the-type K′.the-plain 𝓤 H A) (h .control) _ (control-is h _ h-is) $ fjoin ! $
       owned ! D.the-row (Is D.the-row) (LL.makes D.the-type D′.the-plain 𝓤 H A) (h .peripherals) _ (peripherals-are h _ h-is) $ fjoin ! $
-      owned ! P.the-row (Is P.the-row) (LL.makes P.the-type P′.the-plain 𝓤 H A) (h .memory) _ (cells-are h _ h-is) $ fjoin ! $ move ! (2 ∷ 0 ∷ []) $ fjoin ! $
+      owned ! P.the-row (Is P.the-row) (LL.makes P.the-type P′.the-plain 𝓤 H A) (h .memory) _ (cells-are h _ h-is) $ fjoin ! $ move ! (2 ∷ 0 ∷ []) $ fjoin ! $ owned ! u8 (Is u8) (uint-makes 𝓤 H A W w8) c _ c-is $ fjoin ! $
       nothing ! $ move ! (2 ∷ 0 ∷ []) $ join ! $ join ! $ frame ! $ done !
 
   -- of what `step_by_parts` ensures, the clause alone: it has no `&mut`, so what is said of last values is dropped
-  said : (r : LentStep) → ent 𝓤 (ensured 𝓤 H A step.ended (step.clauses 𝓤 H A at-mem run) (κ, tt) (s, (h .memory, (h .peripherals, (h .control, (i, (n, tt)))))) tt r) (fact 𝓤 (r ≡ lentStepOf (stepOf upd17132 (now s) (signals i n) h)))
-  said r = exE 𝓤 _ (λ ws. snd∗ 𝓤 (sem 𝓤 H A (lasts step.ended (κ, tt) (s, (h .memory, (h .peripherals, (h .control, (i, (n, tt)))))) ws)) (fact 𝓤 (r ≡ lentStepOf (stepOf upd17132 (now s) (signals i n) h))))
+  said : (r : LentStep) → ent 𝓤 (ensured 𝓤 H A step.ended (step.clauses 𝓤 H A at-mem run) (κ, tt) (c, (s, (h .memory, (h .peripherals, (h .control, (i, (n, tt))))))) tt r) (fact 𝓤 (r ≡ lentStepOf (stepOn (modelOf c) (now s) (signals i n) h)))
+  said r = exE 𝓤 _ (λ ws. snd∗ 𝓤 (sem 𝓤 H A (lasts step.ended (κ, tt) (c, (s, (h .memory, (h .peripherals, (h .control, (i, (n, tt))))))) ws)) (fact 𝓤 (r ≡ lentStepOf (stepOn (modelOf c) (now s) (signals i n) h))))
 
-  exits : (r : LentStep) (vs : List Val) → Is S.the-row r vs → r ≡ lentStepOf (stepOf upd17132 (now s) (signals i n) h)
+  exits : (r : LentStep) (vs : List Val) → Is S.the-row r vs → r ≡ lentStepOf (stepOn (modelOf c) (now s) (signals i n) h)
       → ent 𝓤 (⋆ 𝓤 H A (‵ (fobs γ (R.the-row .coded .code (r .machine))) ∷ ‵ (fbor κ′ (Body (mem R.the-row) b o γ)) ∷ ‵ (flft κ′ q′) ∷ (‵ (flft κ q) ⊛ ‵ ftrue) ∷ ‵ Own ∷ [])) (Post (ev (r .number)))
   exits r vs is e =
       qed W (‵ (fobs γ (R.the-row .coded .code (r .machine))) ∷ ‵ (fbor κ′ (Body (mem R.the-row) b o γ)) ∷ ‵ (flft κ′ q′) ∷ (‵ (flft κ q) ⊛ ‵ ftrue) ∷ ‵ Own ∷ []) ∵
-      suffices ! _ (ends-at 𝓤 H A ms.ended stayed (ms.clauses 𝓤 H A at-mem run) W (((κ, (κ′, tt)), (q, (q′, tt)), tt, a, vals), tt) (ev (r .number)) (r .number) (tt, (r .machine, (tt, (tt, tt)))) (tt, (tt, (tt, (tt, tt))))) $
-      says ! (e, kept (now s) (signals i n) h r e) $
+      suffices ! _ (ends-at 𝓤 H A ms.ended stayed (ms.clauses 𝓤 H A at-mem run) W (((κ, (κ′, tt)), (q, (q′, tt)), tt, a, vals), tt) (ev (r .number)) (r .number) (tt, (tt, (r .machine, (tt, (tt, tt))))) (tt, (tt, (tt, (tt, (tt, tt)))))) $
+      says ! (e, kept (modelOf c) (now s) (signals i n) h r e) $
       -- the tokens
       move ! (3 ∷ []) $ split ! $ move ! (4 ∷ 1 ∷ []) $ join ! $ move ! (1 ∷ 0 ∷ []) $ join ! $ frame ! $
       -- what is had of the parameters
-      feqI ! (List Val) (vptr b o ∷ []) (vptr b o ∷ []) refl $ fjoin3 ! $ nothing ! $ owned ! u8 (Is u8) (uint-makes 𝓤 H A W w8) n _ n-is $ fjoin ! $ owned ! I.the-row (Is I.the-row) (LL.makes I.the-type I′.the-plain 𝓤 H A) i _ i-is $ fjoin ! $ move ! (1 ∷ 0 ∷ []) $ fjoin ! $ move ! (1 ∷ 0 ∷ []) $ fjoin ! $ frame ! $
+      feqI ! (List Val) (vptr b o ∷ []) (vptr b o ∷ []) refl $ fjoin3 ! $ nothing ! $ owned ! u8 (Is u8) (uint-makes 𝓤 H A W w8) n _ n-is $ fjoin ! $ owned ! I.the-row (Is I.the-row) (LL.makes I.the-type I′.the-plain 𝓤 H A) i _ i-is $ fjoin ! $ move ! (1 ∷ 0 ∷ []) $ fjoin ! $ move ! (1 ∷ 0 ∷ []) $ fjoin ! $ owned ! u8 (Is u8) (uint-makes 𝓤 H A W w8) c _ c-is $ fjoin ! $ frame ! $
       -- the answer
       owned ! u8 (Is u8) (uint-makes 𝓤 H A W w8) (r .number) _ (number-is r vs is) $ done !
 
   module _ (C : Calls 𝓤 H) (Λ : Loops 𝓤 H) (fm : FmC 𝓤 H (W .laws) C) (known : Triple 𝓤 (C #step-by-parts) (StepC 𝓤 H A at-mem run)) where
-    walk : Is (ShrSlice (named 0) κ u16) s (v ∷ []) → ent 𝓤 (onEntry 𝓤 H A ms.signature (κ, (κ′, tt)) (q, (q′, tt)) a vals) (WpFn 𝓤 H C Λ code.function (v ∷ vptr b o ∷ iv i ∷ ev n ∷ []) Post)
+    walk : Is (ShrSlice (named 0) κ u16) s (v ∷ []) → ent 𝓤 (onEntry 𝓤 H A ms.signature (κ, (κ′, tt)) (q, (q′, tt)) a vals) (WpFn 𝓤 H C Λ code.function (ev c ∷ v ∷ vptr b o ∷ iv i ∷ ev n ∷ []) Post)
     walk s-is =
-        qed W ((‵ (flft κ q) ⊛ ‵ (flft κ′ q′) ⊛ ‵ ftrue) ∷ ‵ (owns (ShrSlice (named 0) κ u16 ∷ MutRef (named 1) κ′ R.the-row ∷ I.the-row ∷ u8 ∷ []) a vals) ∷ []) ∵
-        split ! $ move ! (1 ∷ []) $ split ! $ move ! (3 ∷ []) $ fsplit ! $ move ! (1 ∷ []) $ fsplit ! $ fsplit3 ! $ drop ! $
-        -- [obs; the borrow; the input's and the pulse's; the slice's; κ′'s token; true; κ's token]
-        move ! (0 ∷ 1 ∷ 4 ∷ 3 ∷ 6 ∷ []) $ enter ! C Λ code.function (v ∷ vptr b o ∷ iv i ∷ ev n ∷ []) _ $
-        alloc1 ! (λ l₀. alloc1 ! (λ l₁. alloc1 ! (λ l₂. alloc1 ! (λ l₃. alloc1 ! (λ l₄. alloc1 ! (λ l₅. alloc1 ! (λ l₆. alloc1 ! (λ l₇. alloc1 ! (λ l₈. alloc0 ! $ params1 ! $
-        pass1 ! (init ! 14 refl (shr-slice-lawful 𝓤 H A W (named 0) κ u16 .typed s (v ∷ []) s-is .0)) $ pass1 ! (init ! 12 refl (tt, tt)) $ pass1 ! (init ! 10 refl (LL.lawful I.the-type I′.the-laws 𝓤 H A W .typed i _ i-is .0)) $ pass1 ! (init ! 8 refl (uint-lawful 𝓤 H A W w8 .typed n _ n-is .0)) $ pass0 ! $
-        -- [_8; …; _7; …; _6; …; _5; …; _4; …; _3; …; _2; …; _1; …; _0; …; obs; the borrow; κ′'s token; the slice's; κ's token; …]
-        move ! (18 ∷ 19 ∷ 20 ∷ []) $ opens ! tt R.the-row {h = h} b o (λ vs. spelt ! R.the-row (Is R.the-row) (shows 𝓤 H A R.the-row) (LL.vals R.the-type R′.the-laws) (LL.tells R.the-type R′.the-laws) fullShare h vs b o $
+        qed W ((‵ (flft κ q) ⊛ ‵ (flft κ′ q′) ⊛ ‵ ftrue) ∷ ‵ (owns (u8 ∷ ShrSlice (named 0) κ u16 ∷ MutRef (named 1) κ′ R.the-row ∷ I.the-row ∷ u8 ∷ []) a vals) ∷ []) ∵
+        split ! $ move ! (1 ∷ []) $ split ! $ move ! (3 ∷ []) $ fsplit ! $ move ! (1 ∷ []) $ fsplit ! $ move ! (1 ∷ []) $ fsplit ! $ fsplit3 ! $ drop ! $
+        -- [obs; the borrow; the input's and the pulse's; the slice's; the model's; κ′'s token; true; κ's token]
+        move ! (0 ∷ 1 ∷ 5 ∷ 3 ∷ 7 ∷ []) $ enter ! C Λ code.function (ev c ∷ v ∷ vptr b o ∷ iv i ∷ ev n ∷ []) _ $
+        alloc1 ! (λ l₀. alloc1 ! (λ l₁. alloc1 ! (λ l₂. alloc1 ! (λ l₃. alloc1 ! (λ l₄. alloc1 ! (λ l₅. alloc1 ! (λ l₆. alloc1 ! (λ l₇. alloc1 ! (λ l₈. alloc1 ! (λ l₉. alloc0 ! $ params1 ! $
+        pass1 ! (init ! 16 refl (uint-lawful 𝓤 H A W w8 .typed c _ c-is .0)) $ pass1 ! (init ! 14 refl (shr-slice-lawful 𝓤 H A W (named 0) κ u16 .typed s (v ∷ []) s-is .0)) $ pass1 ! (init ! 12 refl (tt, tt)) $ pass1 ! (init ! 10 refl (LL.lawful I.the-type I′.the-laws 𝓤 H A W .typed i _ i-is .0)) $ pass1 ! (init ! 8 refl (uint-lawful 𝓤 H A W w8 .typed n _ n-is .0)) $ pass0 ! $
+        -- [_9; …; _8; …; _7; …; _6; …; _5; …; _4; …; _3; …; _2; …; _1; …; _0; …; obs; the borrow; κ′'s token; the slice's; κ's token; …]
+        move ! (20 ∷ 21 ∷ 22 ∷ []) $ opens ! tt R.the-row {h = h} b o (λ vs. spelt ! R.the-row (Is R.the-row) (shows 𝓤 H A R.the-row) (LL.vals R.the-type R′.the-laws) (LL.tells R.the-type R′.the-laws) fullShare h vs b o $
         move ! (1 ∷ []) $ peeks ! R.the-row (Is R.the-row) (shows 𝓤 H A R.the-row) h (rv h ∷ []) (λ h-is. move ! (1 ∷ 0 ∷ []) $
-        -- [the record's cell; what it owns; the open borrow; obs; auth; _8; …; _7; …; _6; …; _5; …; _4; …; _3; …; _2; …; _1; …; _0; …; the slice's; κ's token; …]
+        -- [the record's cell; what it owns; the open borrow; obs; auth; _9; …; _8; …; _7; …; _6; …; _5; …; _4; …; _3; …; _2; …; _1; …; _0; …; the slice's; κ's token; …]
         assigns ! (of-opd ! (load ! (from ! (hop ! (look ! 17 refl) (fld ! refl (stop !)))) (look-in ! 0 (by-name ! (sub ! 0 refl (whole !)))))) (from ! (stop !)) (init ! 9 refl (LL.lawful P.the-type P′.the-laws 𝓤 H A W .typed (h .memory) _ (cells-are h _ h-is) .0)) $
         assigns ! (of-opd ! (load ! (from ! (hop ! (look ! 17 refl) (fld ! refl (stop !)))) (look-in ! 0 (by-name ! (sub ! 1 refl (whole !)))))) (from ! (stop !)) (init ! 7 refl (LL.lawful D.the-type D′.the-laws 𝓤 H A W .typed (h .peripherals) _ (peripherals-are h _ h-is) .0)) $
         assigns ! (of-opd ! (load ! (from ! (hop ! (look ! 17 refl) (fld ! refl (stop !)))) (look-in ! 0 (by-name ! (sub ! 2 refl (whole !)))))) (from ! (stop !)) (init ! 5 refl (LL.lawful K.the-type K′.the-laws 𝓤 H A W .typed (h .control) _ (control-is h _ h-is) .0)) $
         -- the call
-        move ! (23 ∷ []) $ use1 W (‵ Own ⊛ ‵ Own) (shr-slice-copy 𝓤 H A W (named 0) κ u16 .twice s (v ∷ [])) $ split ! $ move ! (25 ∷ 0 ∷ []) $ use2 W (raw (StepC 𝓤 H A at-mem run .pre to)) (goes h-is) $
-        -- [what stepped asks; the slice's; the cell; what the record owns; the open borrow; obs; auth; _8; …; _7; …; _6; …; _5; …]
-        calls-at ! fm (StepC 𝓤 H A at-mem run) known to (and-then ! (load ! (from ! (stop !)) (look ! 21 refl)) (and-then ! (load ! (from ! (stop !)) (look ! 11 refl)) (and-then ! (load ! (from ! (stop !)) (look ! 9 refl)) (and-then ! (load ! (from ! (stop !)) (look ! 7 refl)) (and-then ! (load ! (from ! (stop !)) (look ! 17 refl)) (and-then ! (load ! (from ! (stop !)) (look ! 15 refl)) (no-more !))))))) (λ w.
-        use1 W (later (some (λ (r : LentStep). ((‵ (flft κ q) ⊛ ‵ ftrue) ⊛ ‵ (S.the-row .own r (w ∷ []))) ⊛ raw (ensured 𝓤 H A step.ended (step.clauses 𝓤 H A at-mem run) (κ, tt) (s, (h .memory, (h .peripherals, (h .control, (i, (n, tt)))))) tt r)))) (id⊢ 𝓤 _) $ await ! tt $ pick ! (λ r.
-        split ! $ move ! (1 ∷ []) $ use1 W (raw (fact 𝓤 (r ≡ lentStepOf (stepOf upd17132 (now s) (signals i n) h)))) (said r) $ heard ! (r ≡ lentStepOf (stepOf upd17132 (now s) (signals i n) h)) (λ e. split ! $ move ! (1 ∷ []) $ facts ! S.the-row (Is S.the-row) (shows 𝓤 H A S.the-row) r (w ∷ []) (λ is.
-        -- [κ's token; the slice's; the cell; what the record owned; the open borrow; obs; auth; _8; …; _7; …; _6; …; _5; …; _4; …; _3; …; _2; …; _1; …; _0; …]
-        land ! (from ! (stop !)) (init ! 13 refl (LL.lawful S.the-type S′.the-laws 𝓤 H A W .typed r _ is .0)) $ rewrite ! 13 (λ (u : Val). ‵ (fat fullShare S′.mir l₅ 0 u)) (ap only (LL.tells S.the-type S′.the-laws r (w ∷ []) is)) refl $
+        move ! (25 ∷ []) $ use1 W (‵ Own ⊛ ‵ Own) (shr-slice-copy 𝓤 H A W (named 0) κ u16 .twice s (v ∷ [])) $ split ! $ move ! (27 ∷ 0 ∷ []) $ use2 W (raw (StepC 𝓤 H A at-mem run .pre to)) (goes h-is) $
+        -- [what stepped asks; the slice's; the cell; what the record owns; the open borrow; obs; auth; _9; …; _8; …; _7; …; _6; …; _5; …]
+        calls-at ! fm (StepC 𝓤 H A at-mem run) known to (and-then ! (load ! (from ! (stop !)) (look ! 23 refl)) (and-then ! (load ! (from ! (stop !)) (look ! 21 refl)) (and-then ! (load ! (from ! (stop !)) (look ! 11 refl)) (and-then ! (load ! (from ! (stop !)) (look ! 9 refl)) (and-then ! (load ! (from ! (stop !)) (look ! 7 refl)) (and-then ! (load ! (from ! (stop !)) (look ! 17 refl)) (and-then ! (load ! (from ! (stop !)) (look ! 15 refl)) (no-more !)))))))) (λ w.
+        use1 W (later (some (λ (r : LentStep). ((‵ (flft κ q) ⊛ ‵ ftrue) ⊛ ‵ (S.the-row .own r (w ∷ []))) ⊛ raw (ensured 𝓤 H A step.ended (step.clauses 𝓤 H A at-mem run) (κ, tt) (c, (s, (h .memory, (h .peripherals, (h .control, (i, (n, tt))))))) tt r)))) (id⊢ 𝓤 _) $ await ! tt $ pick ! (λ r.
+        split ! $ move ! (1 ∷ []) $ use1 W (raw (fact 𝓤 (r ≡ lentStepOf (stepOn (modelOf c) (now s) (signals i n) h)))) (said r) $ heard ! (r ≡ lentStepOf (stepOn (modelOf c) (now s) (signals i n) h)) (λ e. split ! $ move ! (1 ∷ []) $ facts ! S.the-row (Is S.the-row) (shows 𝓤 H A S.the-row) r (w ∷ []) (λ is.
+        -- [κ's token; the slice's; the cell; what the record owned; the open borrow; obs; auth; _9; …; _8; …; _7; …; _6; …; _5; …; _4; …; _3; …; _2; …; _1; …; _0; …]
+        land ! (from ! (stop !)) (init ! 13 refl (LL.lawful S.the-type S′.the-laws 𝓤 H A W .typed r _ is .0)) $ rewrite ! 13 (λ (u : Val). ‵ (fat fullShare S′.mir l₆ 0 u)) (ap only (LL.tells S.the-type S′.the-laws r (w ∷ []) is)) refl $
         assigns ! (of-opd ! (load ! (from ! (fld ! refl (stop !))) (look-in ! 13 (sub ! 0 refl (whole !))))) (from ! (hop ! (look ! 19 refl) (stop !))) (store-raw ! 2 refl (LL.lawful R.the-type R′.the-laws 𝓤 H A W .typed (r .machine) _ (left-is r _ is) .0)) $
-        assigns ! (of-opd ! (load ! (from ! (fld ! refl (stop !))) (look-in ! 13 (sub ! 1 refl (whole !))))) (from ! (stop !)) (init ! 23 refl (uint-lawful 𝓤 H A W w8 .typed (r .number) _ (number-is r _ is) .0)) $
+        assigns ! (of-opd ! (load ! (from ! (fld ! refl (stop !))) (look-in ! 13 (sub ! 1 refl (whole !))))) (from ! (stop !)) (init ! 25 refl (uint-lawful 𝓤 H A W w8 .typed (r .number) _ (number-is r _ is) .0)) $
         -- the borrow is closed at the new record
         move ! (3 ∷ []) $ drop ! $ owned ! R.the-row (Is R.the-row) (LL.makes R.the-type R′.the-plain 𝓤 H A) (r .machine) _ (left-is r _ is) $ move ! (3 ∷ 0 ∷ 4 ∷ 5 ∷ 6 ∷ []) $ closes ! tt R.the-row (r .machine) (rv (r .machine) ∷ []) b o $
-        -- [obs; the borrow; κ′'s token; κ's token; the slice's; _8; …; _7; …; _6; …; _5; …; _4; …; _3; …; _2; …; _1; …; _0; …]
-        returns ! (look ! 21 refl) $ forget ! 5 refl $ forget ! 7 refl $ forget ! 9 refl $ forget ! 11 refl $ forget ! 13 refl $ forget ! 15 refl $ forget ! 17 refl $ forget ! 19 refl $ forget ! 21 refl $
-        move ! (21 ∷ 22 ∷ []) $ free1 ! $ move ! (19 ∷ 20 ∷ []) $ free1 ! $ move ! (17 ∷ 18 ∷ []) $ free1 ! $ move ! (15 ∷ 16 ∷ []) $ free1 ! $ move ! (13 ∷ 14 ∷ []) $ free1 ! $ move ! (11 ∷ 12 ∷ []) $ free1 ! $ move ! (9 ∷ 10 ∷ []) $ free1 ! $ move ! (7 ∷ 8 ∷ []) $ free1 ! $ move ! (5 ∷ 6 ∷ []) $ free1 ! $ free0 ! $
-        keep ! (0 ∷ 1 ∷ 2 ∷ 3 ∷ 4 ∷ []) $ by ! (exits r (w ∷ []) is e))))))))))))))))
+        -- [obs; the borrow; κ′'s token; κ's token; the slice's; _9; …; _8; …; _7; …; _6; …; _5; …; _4; …; _3; …; _2; …; _1; …; _0; …]
+        returns ! (look ! 23 refl) $ forget ! 5 refl $ forget ! 7 refl $ forget ! 9 refl $ forget ! 11 refl $ forget ! 13 refl $ forget ! 15 refl $ forget ! 17 refl $ forget ! 19 refl $ forget ! 21 refl $ forget ! 23 refl $
+        move ! (23 ∷ 24 ∷ []) $ free1 ! $ move ! (21 ∷ 22 ∷ []) $ free1 ! $ move ! (19 ∷ 20 ∷ []) $ free1 ! $ move ! (17 ∷ 18 ∷ []) $ free1 ! $ move ! (15 ∷ 16 ∷ []) $ free1 ! $ move ! (13 ∷ 14 ∷ []) $ free1 ! $ move ! (11 ∷ 12 ∷ []) $ free1 ! $ move ! (9 ∷ 10 ∷ []) $ free1 ! $ move ! (7 ∷ 8 ∷ []) $ free1 ! $ move ! (5 ∷ 6 ∷ []) $ free1 ! $ free0 ! $
+        keep ! (0 ∷ 1 ∷ 2 ∷ 3 ∷ 4 ∷ []) $ by ! (exits r (w ∷ []) is e)))))))))))))))))
 
 module _ {M : Type 1} (𝓤 : URA M) (H : Heap 𝓤) (A : Atoms 𝓤) (W : Given 𝓤 H A) (at-mem : Memory → SProp 𝓤) (run : Routine → Fun 𝓤) where
   ms-walks : (C : Calls 𝓤 H) (Λ : Loops 𝓤 H) → FmC 𝓤 H (W .laws) C → Triple 𝓤 (C #step-by-parts) (StepC 𝓤 H A at-mem run) → Walks 𝓤 H A ms.ended stayed (WpFn 𝓤 H C Λ code.function) (ms.clauses 𝓤 H A at-mem run)
   ms-walks C Λ fm known = walked 𝓤 H A ms.ended stayed (ms.clauses 𝓤 H A at-mem run) (WpFn 𝓤 H C Λ code.function)
-      (λ κs. (slice-vals, (ptr-vals, (LL.vals I.the-type I′.the-laws, (uint-vals w8, tt))))) (λ κs. (shr-slice-tells (named 0) (κs .0) u16, (mut-tells (named 1) (κs .1 .0) R.the-row, (LL.tells I.the-type I′.the-laws, (uint-tells w8, tt)))))
-      (λ κs qs bounds a _ are. via 𝓤 _ (fst∗ 𝓤 _ (emp 𝓤)) (walk 𝓤 H A W at-mem run (κs .0) (κs .1 .0) (qs .0) (qs .1 .0) (a .0) (a .1 .0 .ptr .0) (a .1 .0 .ptr .1) (a .1 .0 .name) (a .1 .0 .now) (a .1 .1 .0) (a .1 .1 .1 .0) (are .1 .1 .0) (are .1 .1 .1 .0) C Λ fm known (are .0)))
+      (λ κs. (uint-vals w8, (slice-vals, (ptr-vals, (LL.vals I.the-type I′.the-laws, (uint-vals w8, tt)))))) (λ κs. (uint-tells w8, (shr-slice-tells (named 0) (κs .0) u16, (mut-tells (named 1) (κs .1 .0) R.the-row, (LL.tells I.the-type I′.the-laws, (uint-tells w8, tt))))))
+      (λ κs qs bounds a _ are. via 𝓤 _ (fst∗ 𝓤 _ (emp 𝓤)) (walk 𝓤 H A W at-mem run (κs .0) (κs .1 .0) (qs .0) (qs .1 .0) (a .0) (a .1 .0) (a .1 .1 .0 .ptr .0) (a .1 .1 .0 .ptr .1) (a .1 .1 .0 .name) (a .1 .1 .0 .now) (a .1 .1 .1 .0) (a .1 .1 .1 .1 .0) (are .0) (are .1 .1 .1 .0) (are .1 .1 .1 .1 .0) C Λ fm known (are .1 .0)))
 
 ms-meets : {M : Type 1} (𝓤 : URA M) (H : Heap 𝓤) (A : Atoms 𝓤) → Given 𝓤 H A → (at-mem : Memory → SProp 𝓤) (run : Routine → Fun 𝓤) (𝓣 : Tables 𝓤 H) → Triple 𝓤 (𝓣 .C #step-by-parts) (StepC 𝓤 H A at-mem run)
     → Meets 𝓤 H A ms.signature (WpFn 𝓤 H (𝓣 .C) (𝓣 .Λ) code.function) (ms.spec 𝓤 H A at-mem run)
 ms-meets 𝓤 H A W at-mem run 𝓣 known =
-    walk-meets 𝓤 H A ms.ended stayed W (goes-none-slice 𝓤 H A W 2 (0 ∷ []) tt (plain (λ _. u16)) yes, (goes-ref 𝓤 H A W 2 1 tt (plain (λ _. R.the-row)), (goes-none 𝓤 H A W 2 (λ _. I.the-row) yes (λ κs x f. refl), (goes-none 𝓤 H A W 2 (λ _. u8) yes (λ κs x f. refl), tt)))) (ms.clauses 𝓤 H A at-mem run)
+    walk-meets 𝓤 H A ms.ended stayed W (goes-none 𝓤 H A W 2 (λ _. u8) yes (λ κs x f. refl), (goes-none-slice 𝓤 H A W 2 (0 ∷ []) tt (plain (λ _. u16)) yes, (goes-ref 𝓤 H A W 2 1 tt (plain (λ _. R.the-row)), (goes-none 𝓤 H A W 2 (λ _. I.the-row) yes (λ κs x f. refl), (goes-none 𝓤 H A W 2 (λ _. u8) yes (λ κs x f. refl), tt))))) (ms.clauses 𝓤 H A at-mem run)
     (WpFn 𝓤 H (𝓣 .C) (𝓣 .Λ) code.function) (WpFn-mono 𝓤 H (W .laws) 𝓣 code.function) (ms-walks 𝓤 H A W at-mem run (𝓣 .C) (𝓣 .Λ) (fmOf 𝓤 H (W .laws) 𝓣) known)
 
 pub pollwezen-step-spec : {M : Type 1} → stated.statement M

@@ -1,140 +1,181 @@
 use mathlib.Core.Path.{_∙_, ap, refl, sym}
 use borrow.Author.Tests.{not-true, not-false, eq-eqb, ne-eqb}
 use mathlib.Core.Bool.{Bool}
-use Rattle.memory.specs.Chip.{upd17132}
+use Rattle.memory.specs.Chip.{chipOf}
 use Rattle.memory.specs.Write.{writesApplied}
 use Rattle.control.specs.Control.{controlOf, onwardOf}
 use Rattle.control.specs.Transfers.{withStack}
+use Rattle.operations.specs.Operands.{addressIn, addressesOf, lacksAt}
 use Rattle.operations.specs.Settings.{settingsOf}
 use Rattle.operations.specs.Writes.{holdsAt, writesAt, writesOf}
-use Rattle.cpu.specs.Execute.{executeOf, writtenOf, transferBy, pastTable}
-use Rattle.cpu.proofs.Settled.{completes, moves, told, written}
+use Rattle.cpu.specs.Execute.{executeOf, lacksOf, writtenOf, transferBy, pastTable}
+use Rattle.cpu.proofs.Lacking.{lacks}
+use Rattle.cpu.proofs.Settled.{completes, lacking, moves, told, written}
 use borrow.Author.Needs.{needs}
 use Rattle.cpu.proofs.execution.execute.Statement.{statement}
 use Rattle.cpu.proofs.execution.execute.Tie as tie
 
 returns : tie.Need-returns
-unfolding transferBy controlOf pastTable writesAt
-returns c = λ directions release pulse. rw (c .before .before .before .before .before .before .instruction .given .1) (completes _ _ _ _ _ _ _ _ _ _ _ (c .onward .ensures _) refl (written _ _ _ _ _ _ _ _ _ (rw (c .before .before .before .before .before .before .instruction .given .1) at (c .before .before .before .before .before .before .before .before .locate .ensures)) _ (rw (← c .before .before .before .read .ensures) (c .before .operate .ensures))))
+returns c = λ directions release pulse.
+    lacks _ _ _ _ _ (lacking _ _ _ _ _ _ _ _ _ (c .before .before .locate .ensures) (sym (c .before .lacks .ensures) ∙ c .if1 .taken))
 
 returns-2 : tie.Need-returns-2
 unfolding transferBy controlOf pastTable writesAt
-returns-2 c = λ directions release pulse. rw (c .before .before .before .before .instruction2 .given .1) (completes _ _ _ _ _ _ _ _ _ _ _ (c .onward2 .ensures _) refl (written _ _ _ _ _ _ _ _ _ (rw (c .before .before .before .before .instruction2 .given .1) at (c .before .before .before .before .before .before .locate .ensures)) _ (c .before .operate2 .ensures)))
+returns-2 c = λ directions release pulse.
+    let is-it = c .before .before .before .before .before .before .instruction .given .1 in
+    let found = rw is-it at (c .before .before .before .before .before .before .before .before .before .before .locate .ensures) in
+    let there = lacking _ _ _ _ _ _ _ _ _ found (sym (c .before .before .before .before .before .before .before .before .before .lacks .ensures) ∙ c .before .before .before .before .before .before .before .before .if1 .left) in
+    rw is-it (completes _ _ _ _ _ _ _ _ _ _ _ (c .onward .ensures _) refl there (written _ _ _ _ _ _ _ _ _ found _ (rw (← c .before .before .before .read .ensures) (c .before .operate .ensures))))
 
 returns-3 : tie.Need-returns-3
-unfolding transferBy controlOf pastTable writesAt holdsAt
+unfolding transferBy controlOf pastTable writesAt
 returns-3 c = λ directions release pulse.
-    let s = c .before .before .before .before .before .before .before .before .before .args in
-    let found = rw (c .before .before .before .before .instruction3 .given .1) at (c .before .before .before .before .before .before .locate .ensures) in
-    rw (c .before .before .before .before .instruction3 .given .1)
-    (completes _ _ _ _ _ _ _ _ _ _ _
-    (c .onward3 .ensures _ ∙ ap (λ (h : Bool). onwardOf upd17132 h (withStack (s .stack .now) (s .regs))) (c .before .skip .ensures .1 ∙ told _ _ _ _ found))
-    refl (written _ _ _ _ _ _ _ _ _ found _ (c .before .skip .ensures .0)))
+    let is-it = c .before .before .before .before .instruction2 .given .1 in
+    let found = rw is-it at (c .before .before .before .before .before .before .before .before .locate .ensures) in
+    let there = lacking _ _ _ _ _ _ _ _ _ found (sym (c .before .before .before .before .before .before .before .lacks .ensures) ∙ c .before .before .before .before .before .before .if1 .left) in
+    rw is-it (completes _ _ _ _ _ _ _ _ _ _ _ (c .onward2 .ensures _) refl there (written _ _ _ _ _ _ _ _ _ found _ (c .before .operate2 .ensures)))
 
 returns-4 : tie.Need-returns-4
-unfolding transferBy controlOf pastTable writesAt
-returns-4 c = λ directions release pulse. rw (c .before .before .before .enum-told .given .1) (completes _ _ _ _ _ _ _ _ _ _ _ (c .onward4 .ensures _) refl (written _ _ _ _ _ _ _ _ _ (rw (c .before .before .before .enum-told .given .1) at (c .before .before .before .before .before .locate .ensures)) _ (c .before .rorc .ensures)))
+unfolding transferBy controlOf pastTable writesAt holdsAt
+returns-4 c = λ directions release pulse.
+    let s = c .before .before .before .before .before .before .before .before .before .before .before .args in
+    let found = rw (c .before .before .before .before .instruction3 .given .1) at (c .before .before .before .before .before .before .before .before .locate .ensures) in
+    let there = lacking _ _ _ _ _ _ _ _ _ found (sym (c .before .before .before .before .before .before .before .lacks .ensures) ∙ c .before .before .before .before .before .before .if1 .left) in
+    rw (c .before .before .before .before .instruction3 .given .1)
+    (completes _ _ _ _ _ _ _ _ _ _ _
+    (c .onward3 .ensures _ ∙ ap (λ (h : Bool). onwardOf (chipOf (s .model)) h (withStack (s .stack .now) (s .regs))) (c .before .skip .ensures .1 ∙ told _ _ _ _ found))
+    refl there (written _ _ _ _ _ _ _ _ _ found _ (c .before .skip .ensures .0)))
 
 returns-5 : tie.Need-returns-5
 unfolding transferBy controlOf pastTable writesAt
-returns-5 c = λ directions release pulse. rw (c .before .before .before .enum-told2 .given .1) (completes _ _ _ _ _ _ _ _ _ _ _ (c .onward5 .ensures _) refl (written _ _ _ _ _ _ _ _ _ (rw (c .before .before .before .enum-told2 .given .1) at (c .before .before .before .before .before .locate .ensures)) _ (c .before .transfer .ensures)))
+returns-5 c = λ directions release pulse.
+    let is-it = c .before .before .before .enum-told .given .1 in
+    let found = rw is-it at (c .before .before .before .before .before .before .before .locate .ensures) in
+    let there = lacking _ _ _ _ _ _ _ _ _ found (sym (c .before .before .before .before .before .before .lacks .ensures) ∙ c .before .before .before .before .before .if1 .left) in
+    rw is-it (completes _ _ _ _ _ _ _ _ _ _ _ (c .onward4 .ensures _) refl there (written _ _ _ _ _ _ _ _ _ found _ (c .before .rorc .ensures)))
 
 returns-6 : tie.Need-returns-6
 unfolding transferBy controlOf pastTable writesAt
-returns-6 c = λ directions release pulse. rw (c .before .before .before .enum-told3 .given .1) (completes _ _ _ _ _ _ _ _ _ _ _ (c .onward6 .ensures _) refl (written _ _ _ _ _ _ _ _ _ (rw (c .before .before .before .enum-told3 .given .1) at (c .before .before .before .before .before .locate .ensures)) _ (c .before .transfer2 .ensures)))
+returns-6 c = λ directions release pulse.
+    let is-it = c .before .before .before .enum-told2 .given .1 in
+    let found = rw is-it at (c .before .before .before .before .before .before .before .locate .ensures) in
+    let there = lacking _ _ _ _ _ _ _ _ _ found (sym (c .before .before .before .before .before .before .lacks .ensures) ∙ c .before .before .before .before .before .if1 .left) in
+    rw is-it (completes _ _ _ _ _ _ _ _ _ _ _ (c .onward5 .ensures _) refl there (written _ _ _ _ _ _ _ _ _ found _ (c .before .transfer .ensures)))
 
 returns-7 : tie.Need-returns-7
 unfolding transferBy controlOf pastTable writesAt
-returns-7 c = λ directions release pulse. rw (c .before .before .before .enum-told4 .given .1) (completes _ _ _ _ _ _ _ _ _ _ _ (c .onward7 .ensures _) refl (written _ _ _ _ _ _ _ _ _ (rw (c .before .before .before .enum-told4 .given .1) at (c .before .before .before .before .before .locate .ensures)) _ (c .before .transfer3 .ensures)))
+returns-7 c = λ directions release pulse.
+    let is-it = c .before .before .before .enum-told3 .given .1 in
+    let found = rw is-it at (c .before .before .before .before .before .before .before .locate .ensures) in
+    let there = lacking _ _ _ _ _ _ _ _ _ found (sym (c .before .before .before .before .before .before .lacks .ensures) ∙ c .before .before .before .before .before .if1 .left) in
+    rw is-it (completes _ _ _ _ _ _ _ _ _ _ _ (c .onward6 .ensures _) refl there (written _ _ _ _ _ _ _ _ _ found _ (c .before .transfer2 .ensures)))
 
 returns-8 : tie.Need-returns-8
 unfolding transferBy controlOf pastTable writesAt
-returns-8 c = λ directions release pulse. rw (c .before .before .before .enum-told5 .given .1) (completes _ _ _ _ _ _ _ _ _ _ _ (c .onward8 .ensures _) refl (written _ _ _ _ _ _ _ _ _ (rw (c .before .before .before .enum-told5 .given .1) at (c .before .before .before .before .before .locate .ensures)) _ (c .before .transfer4 .ensures)))
+returns-8 c = λ directions release pulse.
+    let is-it = c .before .before .before .enum-told4 .given .1 in
+    let found = rw is-it at (c .before .before .before .before .before .before .before .locate .ensures) in
+    let there = lacking _ _ _ _ _ _ _ _ _ found (sym (c .before .before .before .before .before .before .lacks .ensures) ∙ c .before .before .before .before .before .if1 .left) in
+    rw is-it (completes _ _ _ _ _ _ _ _ _ _ _ (c .onward7 .ensures _) refl there (written _ _ _ _ _ _ _ _ _ found _ (c .before .transfer3 .ensures)))
 
 returns-9 : tie.Need-returns-9
-unfolding transferBy controlOf pastTable writesAt writesApplied
-returns-9 c = λ directions release pulse. rw (c .before .before .before .before .instruction4 .given .1) (completes _ _ _ _ _ _ _ _ _ _ _ (c .onward9 .ensures _) refl (written _ _ _ _ _ _ _ _ _ (rw (c .before .before .before .before .instruction4 .given .1) at (c .before .before .before .before .before .before .locate .ensures)) _ (c .before .store .ensures)))
+unfolding transferBy controlOf pastTable writesAt
+returns-9 c = λ directions release pulse.
+    let is-it = c .before .before .before .enum-told5 .given .1 in
+    let found = rw is-it at (c .before .before .before .before .before .before .before .locate .ensures) in
+    let there = lacking _ _ _ _ _ _ _ _ _ found (sym (c .before .before .before .before .before .before .lacks .ensures) ∙ c .before .before .before .before .before .if1 .left) in
+    rw is-it (completes _ _ _ _ _ _ _ _ _ _ _ (c .onward8 .ensures _) refl there (written _ _ _ _ _ _ _ _ _ found _ (c .before .transfer4 .ensures)))
 
 returns-10 : tie.Need-returns-10
-unfolding executeOf transferBy controlOf
-returns-10 c = λ directions release pulse. rw (c .before .before .before .instruction5 .given .1, sym (c .before .in-file .ensures) ∙ not-true _ (c .if1 .taken))
+unfolding transferBy controlOf pastTable writesAt writesApplied
+returns-10 c = λ directions release pulse.
+    let is-it = c .before .before .before .before .instruction4 .given .1 in
+    let found = rw is-it at (c .before .before .before .before .before .before .before .before .locate .ensures) in
+    let there = lacking _ _ _ _ _ _ _ _ _ found (sym (c .before .before .before .before .before .before .before .lacks .ensures) ∙ c .before .before .before .before .before .before .if1 .left) in
+    rw is-it (completes _ _ _ _ _ _ _ _ _ _ _ (c .onward9 .ensures _) refl there (written _ _ _ _ _ _ _ _ _ found _ (c .before .store .ensures)))
 
 returns-11 : tie.Need-returns-11
-unfolding transferBy controlOf pastTable writtenOf writesOf writesAt writesApplied
-returns-11 c = λ directions release pulse.
-    let there = sym (c .before .before .before .before .in-file .ensures) ∙ not-false _ (c .before .before .before .if1 .left) in
-    rw (c .before .before .before .before .before .before .instruction5 .given .1)
-    (completes _ _ _ _ _ _ _ _ _ _ _ (rw there (c .onward10 .ensures _)) (rw there) (c .before .peek .ensures))
+unfolding executeOf transferBy controlOf
+returns-11 c = λ directions release pulse. rw (c .before .before .before .instruction5 .given .1, sym (c .before .in-file .ensures) ∙ not-true _ (c .if2 .taken))
 
 returns-12 : tie.Need-returns-12
-unfolding executeOf transferBy controlOf
-returns-12 c = λ directions release pulse. rw (c .before .before .before .instruction6 .given .1, sym (c .before .in-file2 .ensures) ∙ not-true _ (c .if2 .taken))
+unfolding transferBy controlOf pastTable writtenOf writesOf writesAt writesApplied
+returns-12 c = λ directions release pulse.
+    let there = sym (c .before .before .before .before .in-file .ensures) ∙ not-false _ (c .before .before .before .if2 .left) in
+    let is-it = c .before .before .before .before .before .before .instruction5 .given .1 in
+    let clear = lacking _ _ _ _ _ _ _ _ _ (rw is-it at (c .before .before .before .before .before .before .before .before .before .before .locate .ensures)) (sym (c .before .before .before .before .before .before .before .before .before .lacks .ensures) ∙ c .before .before .before .before .before .before .before .before .if1 .left) in
+    rw is-it
+    (completes _ _ _ _ _ _ _ _ _ _ _ (rw there (c .onward10 .ensures _)) (rw there) clear (c .before .peek .ensures))
 
 returns-13 : tie.Need-returns-13
-unfolding transferBy controlOf pastTable writtenOf writesOf writesAt writesApplied
-returns-13 c = λ directions release pulse.
-    let there = sym (c .before .before .before .before .in-file2 .ensures) ∙ not-false _ (c .before .before .before .if2 .left) in
-    rw (c .before .before .before .before .before .before .instruction6 .given .1)
-    (completes _ _ _ _ _ _ _ _ _ _ _ (rw there (c .onward11 .ensures _)) (rw there) (c .before .poke .ensures))
+unfolding executeOf transferBy controlOf
+returns-13 c = λ directions release pulse. rw (c .before .before .before .instruction6 .given .1, sym (c .before .in-file2 .ensures) ∙ not-true _ (c .if3 .taken))
 
 returns-14 : tie.Need-returns-14
-unfolding executeOf transferBy controlOf
-returns-14 c = λ directions release pulse. rw (c .before .before .instruction7 .given .1, ne-eqb _ _ (c .if3 .taken))
+unfolding transferBy controlOf pastTable writtenOf writesOf writesAt writesApplied
+returns-14 c = λ directions release pulse.
+    let there = sym (c .before .before .before .before .in-file2 .ensures) ∙ not-false _ (c .before .before .before .if3 .left) in
+    let is-it = c .before .before .before .before .before .before .instruction6 .given .1 in
+    let clear = lacking _ _ _ _ _ _ _ _ _ (rw is-it at (c .before .before .before .before .before .before .before .before .before .before .locate .ensures)) (sym (c .before .before .before .before .before .before .before .before .before .lacks .ensures) ∙ c .before .before .before .before .before .before .before .before .if1 .left) in
+    rw is-it
+    (completes _ _ _ _ _ _ _ _ _ _ _ (rw there (c .onward11 .ensures _)) (rw there) clear (c .before .poke .ensures))
 
 returns-15 : tie.Need-returns-15
-unfolding transferBy controlOf pastTable writtenOf writesOf writesAt writesApplied
-returns-15 c = λ directions release pulse.
-    let there = eq-eqb _ _ (c .before .before .before .if3 .left) in
-    rw (c .before .before .before .before .before .instruction7 .given .1)
-    (completes _ _ _ _ _ _ _ _ _ _ _ (rw there (c .onward12 .ensures _)) (rw there) (c .before .write-low-byte .ensures))
+unfolding executeOf transferBy controlOf
+returns-15 c = λ directions release pulse. rw (c .before .before .instruction7 .given .1, ne-eqb _ _ (c .if4 .taken))
 
 returns-16 : tie.Need-returns-16
-unfolding executeOf transferBy controlOf
-returns-16 c = λ directions release pulse. rw (c .before .before .instruction8 .given .1, ne-eqb _ _ (c .if4 .taken))
+unfolding transferBy controlOf pastTable writtenOf writesOf writesAt writesApplied lacksOf lacksAt addressesOf addressIn
+returns-16 c = λ directions release pulse.
+    let there = eq-eqb _ _ (c .before .before .before .if4 .left) in
+    rw (c .before .before .before .before .before .instruction7 .given .1)
+    (completes _ _ _ _ _ _ _ _ _ _ _ (rw there (c .onward12 .ensures _)) (rw there) refl (c .before .write-low-byte .ensures))
 
 returns-17 : tie.Need-returns-17
-unfolding transferBy controlOf pastTable writtenOf writesOf writesAt writesApplied
-returns-17 c = λ directions release pulse.
-    let there = eq-eqb _ _ (c .before .if4 .left) in
-    rw (c .before .before .before .instruction8 .given .1)
-    (completes _ _ _ _ _ _ _ _ _ _ _ (rw there (c .onward13 .ensures _)) (rw there) refl)
+unfolding executeOf transferBy controlOf
+returns-17 c = λ directions release pulse. rw (c .before .before .instruction8 .given .1, ne-eqb _ _ (c .if5 .taken))
 
 returns-18 : tie.Need-returns-18
-unfolding transferBy controlOf pastTable writtenOf writesOf writesAt writesApplied settingsOf
+unfolding transferBy controlOf pastTable writtenOf writesOf writesAt writesApplied lacksOf lacksAt addressesOf addressIn
 returns-18 c = λ directions release pulse.
-    let s = c .before .before .before .before .before .before .before .args in
-    rw (c .before .before .instruction9 .given .1)
-    (moves _ _ _ _ _ _ _ _ (c .branch .result) (s .stack .now) (c .branch .ensures (s .stack .now)) refl refl)
+    let there = eq-eqb _ _ (c .before .if5 .left) in
+    rw (c .before .before .before .instruction8 .given .1)
+    (completes _ _ _ _ _ _ _ _ _ _ _ (rw there (c .onward13 .ensures _)) (rw there) refl refl)
 
 returns-19 : tie.Need-returns-19
-unfolding transferBy controlOf pastTable writtenOf writesOf writesAt writesApplied settingsOf
+unfolding transferBy controlOf pastTable writtenOf writesOf writesAt writesApplied settingsOf lacksOf lacksAt addressesOf addressIn
 returns-19 c = λ directions release pulse.
-    rw (c .before .before .before .instruction10 .given .1)
-    (moves _ _ _ _ _ _ _ _ (c .call-in-reach .result) (c .call-in-reach .last .0) (c .call-in-reach .ensures) refl refl)
+    let s = c .before .before .before .before .before .before .before .before .before .args in
+    rw (c .before .before .instruction9 .given .1)
+    (moves _ _ _ _ _ _ _ _ (c .branch .result) (s .stack .now) (c .branch .ensures (s .stack .now)) refl refl refl)
 
 returns-20 : tie.Need-returns-20
-unfolding transferBy controlOf pastTable writtenOf writesOf writesAt writesApplied settingsOf
-returns-20 c = λ directions release pulse. rw (c .before .enum-told6 .given .1) (completes _ _ _ _ _ _ _ _ _ _ _ (c .stand .ensures _) refl refl)
+unfolding transferBy controlOf pastTable writtenOf writesOf writesAt writesApplied settingsOf lacksOf lacksAt addressesOf addressIn
+returns-20 c = λ directions release pulse.
+    rw (c .before .before .before .instruction10 .given .1)
+    (moves _ _ _ _ _ _ _ _ (c .call-in-reach .result) (c .call-in-reach .last .1 .0) (c .call-in-reach .ensures) refl refl refl)
 
 returns-21 : tie.Need-returns-21
-unfolding transferBy controlOf pastTable writtenOf writesOf writesAt writesApplied settingsOf
-returns-21 c = λ directions release pulse. rw (c .before .enum-told7 .given .1) (completes _ _ _ _ _ _ _ _ _ _ _ (c .stand2 .ensures _) refl refl)
+unfolding transferBy controlOf pastTable writtenOf writesOf writesAt writesApplied settingsOf lacksOf lacksAt addressesOf addressIn
+returns-21 c = λ directions release pulse. rw (c .before .enum-told6 .given .1) (completes _ _ _ _ _ _ _ _ _ _ _ (c .stand .ensures _) refl refl refl)
 
 returns-22 : tie.Need-returns-22
+unfolding transferBy controlOf pastTable writtenOf writesOf writesAt writesApplied settingsOf lacksOf lacksAt addressesOf addressIn
+returns-22 c = λ directions release pulse. rw (c .before .enum-told7 .given .1) (completes _ _ _ _ _ _ _ _ _ _ _ (c .stand2 .ensures _) refl refl refl)
+
+returns-23 : tie.Need-returns-23
 unfolding settingsOf
-returns-22 c = λ directions release pulse. rw (c .before .before .before .before .instruction11 .given .1) (c .fixed .ensures _ _)
+returns-23 c = λ directions release pulse. rw (c .before .before .before .before .instruction11 .given .1) (c .fixed .ensures _ _)
 
 pub execute-spec : {M : Type 1} → statement M
 execute-spec =
     tie.close
     (tie.spec
     (λ c κs. search needs)
-    (λ c. search needs)
-    (λ c κs. search needs)
-    (λ c κs. search needs)
     (λ c κs. search needs)
     returns
     (λ c. search needs)
+    (λ c κs. search needs)
     (λ c κs. search needs)
     (λ c κs. search needs)
     returns-2
@@ -168,26 +209,27 @@ execute-spec =
     returns-9
     (λ c. search needs)
     (λ c κs. search needs)
-    returns-10
     (λ c κs. search needs)
+    returns-10
+    (λ c. search needs)
     (λ c κs. search needs)
     returns-11
-    (λ c. search needs)
+    (λ c κs. search needs)
     (λ c κs. search needs)
     returns-12
-    (λ c κs. search needs)
+    (λ c. search needs)
     (λ c κs. search needs)
     returns-13
-    (λ c. search needs)
+    (λ c κs. search needs)
+    (λ c κs. search needs)
     returns-14
-    (λ c κs. search needs)
-    (λ c κs. search needs)
+    (λ c. search needs)
     returns-15
-    (λ c. search needs)
-    returns-16
     (λ c κs. search needs)
-    returns-17
+    (λ c κs. search needs)
+    returns-16
     (λ c. search needs)
+    returns-17
     (λ c κs. search needs)
     returns-18
     (λ c. search needs)
@@ -201,4 +243,7 @@ execute-spec =
     returns-21
     (λ c. search needs)
     (λ c κs. search needs)
-    returns-22)
+    returns-22
+    (λ c. search needs)
+    (λ c κs. search needs)
+    returns-23)

@@ -6,9 +6,11 @@ use Prim.Native.Nat.{ℕ, _-_, _≤_}
 use native.Mathlib.Omega.{arith}
 use borrow.Author.Needs.{needs}
 use borrow.Author.Tests.{not-true, not-false}
-use lib.Dec.{eqb, lit≤}
+use lib.Dec.{eqb}
 use lib.ListN.{getD}
-use Rattle.memory.specs.Chip.{upd17132}
+use Rattle.memory.specs.Chip.{Chip, chipOf}
+use Rattle.memory.proofs.Numbers.{levels-fit}
+use Rattle.memory.specs.declared.Model.{Model}
 use Rattle.cpu.specs.Reply.{Reply}
 use Rattle.cpu.specs.declared.Count.{Count}
 use Rattle.cpu.specs.Joined.{signalsAt, wholeOf}
@@ -30,19 +32,25 @@ use Rattle.cpu.proofs.running.go.Statement.{statement}
 use Rattle.cpu.proofs.running.go.Tie as tie
 
 -- what the range test answered for the record put together, it answered for the record
-tested : (rom : List ℕ) (given : Signals) (m joined : Machine) {b : Bool} → joined ≡ m → b ≡ allInRange upd17132 rom joined given → allInRange upd17132 rom m given ≡ b
-tested rom given m joined e r = ap (λ (x : Machine). allInRange upd17132 rom x given) (sym e) ∙ sym r
+tested : (chip : Chip) (rom : List ℕ) (given : Signals) (m joined : Machine) {b : Bool} → joined ≡ m → b ≡ allInRange chip rom joined given → allInRange chip rom m given ≡ b
+tested chip rom given m joined e r = ap (λ (x : Machine). allInRange chip rom x given) (sym e) ∙ sym r
 
 abbrev Inv-loop : tie.InvT-loop
-Inv-loop rom cells₀ pulse budget stack₀ regs₀ pins registers₀ timer₀ steps₀ cycles₀ cells stack regs registers timer steps cycles = ((directions : List ℕ) (release : ℕ) → allInRange upd17132 rom (wholeOf cells₀ stack₀ (withTimer registers₀ timer₀) regs₀) (signalsAt pins directions release pulse) ≡ true → (isMarked (regs₀ .standby) && eqb release 0) ≡ false → Going upd17132 rom (signalsAt pins directions release pulse) budget (wholeOf cells₀ stack₀ (withTimer registers₀ timer₀) regs₀) (record { steps = steps; cycles = cycles }) (wholeOf cells stack (withTimer registers timer) regs)) × Quiet (withTimer registers timer) pulse (timer .quiet)
+Inv-loop model rom cells₀ pulse budget stack₀ regs₀ pins registers₀ timer₀ steps₀ cycles₀ cells stack regs registers timer steps cycles = ((directions : List ℕ) (release : ℕ) → allInRange (chipOf model) rom (wholeOf cells₀ stack₀ (withTimer registers₀ timer₀) regs₀) (signalsAt pins directions release pulse) ≡ true → (isMarked (regs₀ .standby) && eqb release 0) ≡ false → Going (chipOf model) rom (signalsAt pins directions release pulse) budget (wholeOf cells₀ stack₀ (withTimer registers₀ timer₀) regs₀) (record { steps = steps; cycles = cycles }) (wholeOf cells stack (withTimer registers timer) regs)) × Quiet (withTimer registers timer) pulse (timer .quiet)
 
 abbrev μ-loop : tie.MeasureT-loop
-μ-loop rom cells₀ pulse budget stack₀ regs₀ pins registers₀ timer₀ steps₀ cycles₀ cells stack regs registers timer steps cycles = budget - steps
+μ-loop model rom cells₀ pulse budget stack₀ regs₀ pins registers₀ timer₀ steps₀ cycles₀ cells stack regs registers timer steps cycles = budget - steps
 
 -- at the loop's head
 module _ (h : tie.At-loop Inv-loop μ-loop) where
   abbrev rom : List ℕ
   rom = h .before .before .before .before .before .before .before .before .before .before .before .before .before .before .before .args .rom .now
+
+  abbrev model : Model
+  model = h .before .before .before .before .before .before .before .before .before .before .before .before .before .before .before .args .model
+
+  abbrev chip : Chip
+  chip = chipOf model
 
   abbrev given : Signals
   given = signals (h .before .before .before .before .before .before .before .before .before .before .before .before .before .before .before .args .input) (h .before .before .before .before .before .before .before .before .before .before .before .before .before .before .before .args .pulse)
@@ -70,18 +78,18 @@ module _ (h : tie.At-loop Inv-loop μ-loop) where
       ap (λ (k : Control). machineOf (cellsOf machine) parts k) (h .before .before .before .before .before .before .regs-of .ensures)
       ∙ ap (λ (p : Peripherals). machineOf (cellsOf machine) p (machine .control)) (h .before .timer-of .ensures .0)
 
-  passed : allInRange upd17132 rom start given ≡ true
+  passed : allInRange chip rom start given ≡ true
   passed =
-      subst (λ (m : Machine). allInRange upd17132 rom m given ≡ true) (sym whole)
-      (tested _ _ _ _ (h .before .before .before .before .before .before .before .before .before .before .before .join .ensures) (h .before .before .before .before .before .before .before .before .before .before .all .ensures) ∙ not-false _ (h .before .before .before .before .before .before .before .before .before .if2 .left))
+      subst (λ (m : Machine). allInRange chip rom m given ≡ true) (sym whole)
+      (tested _ _ _ _ _ (h .before .before .before .before .before .before .before .before .before .before .before .join .ensures) (h .before .before .before .before .before .before .before .before .before .before .all .ensures) ∙ not-false _ (h .before .before .before .before .before .before .before .before .before .if2 .left))
 
-  head : Going upd17132 rom given budget start so-far here
+  head : Going chip rom given budget start so-far here
   head =
       h .loop .inv .0 (given .input .directions) (given .input .release) passed
       (sym (h .before .before .before .before .before .stays-standing .ensures) ∙ h .before .before .before .before .if4 .left)
 
-  ends : (count : Count) (r : Reply) (m : Machine) → Ends upd17132 rom given budget start count r m → Ends upd17132 rom given budget machine count r m
-  ends count r m e = subst (λ (x : Machine). Ends upd17132 rom given budget x count r m) whole e
+  ends : (count : Count) (r : Reply) (m : Machine) → Ends chip rom given budget start count r m → Ends chip rom given budget machine count r m
+  ends count r m e = subst (λ (x : Machine). Ends chip rom given budget x count r m) whole e
 
 returns : tie.Need-returns Inv-loop μ-loop
 returns c =
@@ -90,12 +98,12 @@ returns c =
 
 returns-2 : tie.Need-returns-2 Inv-loop μ-loop
 returns-2 c =
-    let e = not-in-range _ _ _ _ _ (tested _ _ _ _ (c .before .before .before .join .ensures) (c .before .before .all .ensures) ∙ not-true _ (c .before .if2 .taken)) in
+    let e = not-in-range _ _ _ _ _ (tested _ _ _ _ _ (c .before .before .before .join .ensures) (c .before .before .all .ensures) ∙ not-true _ (c .before .if2 .taken)) in
     rw (c .so-far2 .ensures) (e .run, e .step)
 
 returns-3 : tie.Need-returns-3 Inv-loop μ-loop
 returns-3 c =
-    let e = no-budget _ _ _ _ _ (omega arith) (tested _ _ _ _ (c .before .before .before .before .join .ensures) (c .before .before .before .all .ensures) ∙ not-false _ (c .before .before .if2 .left)) (c .before .if3 .taken) in
+    let e = no-budget _ _ _ _ _ (omega arith) (tested _ _ _ _ _ (c .before .before .before .before .join .ensures) (c .before .before .before .all .ensures) ∙ not-false _ (c .before .before .if2 .left)) (c .before .if3 .taken) in
     rw (c .so-far3 .ensures) (e .run, e .step)
 
 returns-4 : tie.Need-returns-4 Inv-loop μ-loop
@@ -104,10 +112,10 @@ returns-4 c =
     let given : Signals = signals (s .input) (s .pulse) in
     let m : Machine = machineOf (s .cells .now) (s .peripherals) (s .control) in
     let mark = ap (λ (k : Control). k .standby) (c .before .before .before .before .regs-of .ensures) in
-    let stand : waits upd17132 (s .rom .now) given m ≡ true
+    let stand : waits (chipOf (s .model)) (s .rom .now) given m ≡ true
     = ap (λ (k : ℕ). isMarked k && eqb (s .input .release) 0) (sym mark) ∙ sym (c .before .before .before .stays-standing .ensures) ∙ c .before .before .if4 .taken in
     let after = c .before .stood .ensures ∙ ap (λ (k : ℕ). cond (eqb k HALT) (tickOf (s .peripherals) 1 (s .pulse)) (s .peripherals)) mark in
-    let e = stays-so upd17132 (s .rom .now) given (s .budget) m (omega (arith, c .before .before .before .before .before .before .before .before .before .before .before .if1 .left)) (tested _ _ _ _ (c .before .before .before .before .before .before .before .before .before .join .ensures) (c .before .before .before .before .before .before .before .before .all .ensures) ∙ not-false _ (c .before .before .before .before .before .before .before .if2 .left)) (c .before .before .before .before .before .before .if3 .left) stand _ after in
+    let e = stays-so (chipOf (s .model)) (s .rom .now) given (s .budget) m (omega (arith, c .before .before .before .before .before .before .before .before .before .before .before .if1 .left)) (tested _ _ _ _ _ (c .before .before .before .before .before .before .before .before .before .join .ensures) (c .before .before .before .before .before .before .before .before .all .ensures) ∙ not-false _ (c .before .before .before .before .before .before .before .if2 .left)) (c .before .before .before .before .before .before .if3 .left) stand _ after in
     rw (c .so-far4 .ensures) (e .run, e .step)
 
 loop-holds : tie.Need-loop-holds Inv-loop μ-loop
@@ -145,7 +153,7 @@ loop-again c =
     let ticked = ticked-so _ _ (given h .pulse) _ _ _ quiet (c .before .before .pace .ensures .0) (c .before .before .pace .ensures .1) (rw took (cycles-some (getD (rom h) (here h .control .pc) 0) (here h .control .skip))) _ _ _ in (
       λ directions release fine awake.
           let g = h .loop .inv .0 directions release fine awake in
-          going _ _ _ _ _ _ _ g (c .before .before .before .before .before .before .before .before .before .before .before .before .loop-test .taken) (lit≤ tt) ar-fits _ took _ (ticked ∙ rw n at (c .before .before .before .before .before .before .before .advance .ensures .0 directions release (given h .pulse) (g .awake))) (not-marked _ (c .if5 .left)),
+          going _ _ _ _ _ _ _ g (c .before .before .before .before .before .before .before .before .before .before .before .before .loop-test .taken) (levels-fit (model h)) (ar-fits (model h)) _ took _ (ticked ∙ rw n at (c .before .before .before .before .before .before .before .advance .ensures .0 directions release (given h .pulse) (g .awake))) (not-marked _ (c .if5 .left)),
       still-quiet _ _ (given h .pulse) _ _ _ quiet (c .before .before .pace .ensures .0) (c .before .before .pace .ensures .1),
     )
 

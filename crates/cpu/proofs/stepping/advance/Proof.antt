@@ -5,7 +5,7 @@ use Prim.Native.Nat.{ℕ}
 use lib.ListN.{getD}
 use Rattle.isa.specs.Answers.{decodingOf}
 use Rattle.isa.specs.Decode.{decodeOf}
-use Rattle.memory.specs.Chip.{upd17132}
+use Rattle.memory.specs.Chip.{chipOf}
 use Rattle.control.specs.Control.{Transfer, onwardOf, withSkip, onwards}
 use Rattle.machine.specs.declared.Control.{Control}
 use Rattle.peripherals.specs.Parts.{withTimer}
@@ -33,7 +33,7 @@ returns-2 c =
     let skips = is-marked _ (c .before .if1 .taken) in
     let one = skipped-cycles (getD (s .rom .now) (s .regs .pc) 0) (s .regs .skip) skips in
     let on = ap (λ (x : Transfer). x .control) (c .onward .ensures (s .stack .now))
-    ∙ ap (λ (k : Control). withSkip false (onwards upd17132 k)) (c .before .before .before .woken .ensures (s .stack .now)) in (
+    ∙ ap (λ (k : Control). withSkip false (onwards (chipOf (s .model)) k)) (c .before .before .before .woken .ensures (s .stack .now)) in (
       λ directions release pulse goes. passed-over _ _ (signalsAt (s .pins .now) directions release pulse) _ goes (w .0) skips 1 _ one on,
       (one, λ pulse quiet. quiet),
     )

@@ -28,8 +28,8 @@ loop-again c =
       omega (arith, c .wrapping-sub-u8 .ensures, l .inv .1),
       rw length-set (l .inv .2),
       ⊎-elim
-          (λ w. rw (w .1, l .inv .3) (here (a .t1) (a .at) kept (l .i) (omega (arith, w .0 .taken, l .inv .1))))
-          (λ w. rw (w .1, l .inv .3) (elsewhere (a .t1) (a .at) kept (l .i) (λ (e : l .i ≡ a .at). omega (arith, w .0 .left, l .inv .1, e))))
+          (λ w. rw (w .1, l .inv .3) (here (a .t2) (a .at) kept (l .i) (omega (arith, w .0 .taken, l .inv .1))))
+          (λ w. rw (w .1, l .inv .3) (elsewhere (a .t2) (a .at) kept (l .i) (λ (e : l .i ≡ a .at). omega (arith, w .0 .left, l .inv .1, e))))
           (c .before .if1 .came),
     )
 
@@ -39,7 +39,7 @@ returns c =
     let l = c .before .loop in
     let a = c .before .before .before .args in
     let e : l .i ≡ 128 = omega arith in
-    l .inv .3 ∙ rw (e, ← c .before .before .mask .ensures) (at-last (a .t1) (a .at) _ (search needs))
+    l .inv .3 ∙ rw (e, ← c .before .before .mask .ensures) (at-last (a .t2) (a .at) _ (search needs))
 
 pub write-spec : {M : Type 1} → statement M
 write-spec =

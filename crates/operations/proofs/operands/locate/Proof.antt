@@ -29,23 +29,23 @@ returns-6 c = rw (c .before .before .before .before .instruction6 .given .1, c .
 
 returns-7 : tie.Need-returns-7
 unfolding addressesOf addressIn
-returns-7 c = rw (c .before .before .before .before .instruction7 .given .1, c .both7 .ensures, c .before .address6 .ensures, c .before .before .pointer .ensures)
+returns-7 c = rw (c .before .before .before .before .instruction7 .given .1, c .register5 .ensures, c .before .address6 .ensures, c .before .before .pointer .ensures)
 
 returns-8 : tie.Need-returns-8
 unfolding addressesOf addressIn
-returns-8 c = rw (c .before .before .before .before .instruction8 .given .1, c .both8 .ensures, c .before .pointer2 .ensures, c .before .before .address7 .ensures)
+returns-8 c = rw (c .before .before .before .before .instruction8 .given .1, c .register6 .ensures, c .before .pointer2 .ensures, c .before .before .address7 .ensures)
 
 returns-9 : tie.Need-returns-9
 unfolding addressesOf addressIn
-returns-9 c = rw (c .before .before .before .instruction9 .given .1, c .both9 .ensures, c .before .address8 .ensures)
+returns-9 c = rw (c .before .before .before .instruction9 .given .1, c .both7 .ensures, c .before .address8 .ensures)
 
 returns-10 : tie.Need-returns-10
 unfolding addressesOf addressIn
-returns-10 c = rw (c .before .before .before .instruction10 .given .1, c .both10 .ensures, c .before .file .ensures)
+returns-10 c = rw (c .before .before .before .instruction10 .given .1, c .both8 .ensures, c .before .file .ensures)
 
 returns-11 : tie.Need-returns-11
 unfolding addressesOf addressIn
-returns-11 c = rw (c .before .before .before .instruction11 .given .1, c .both11 .ensures, c .before .file2 .ensures)
+returns-11 c = rw (c .before .before .before .instruction11 .given .1, c .both9 .ensures, c .before .file2 .ensures)
 
 returns-12 : tie.Need-returns-12
 unfolding addressesOf addressIn

@@ -1,21 +1,30 @@
-use mathlib.Core.Path.{ap}
-use borrow.Author.Needs.{needs}
+use mathlib.Core.Path.{_∙_, ap, sym}
 use Rattle.pollwezen.specs.Lent.{lentStepOf}
+use borrow.Author.Needs.{needs}
 use Rattle.pollwezen.proofs.calls.step_by_parts.Statement.{statement}
 use Rattle.pollwezen.proofs.calls.step_by_parts.Tie as tie
 
 returns : tie.Need-returns
-returns c =
+returns c = rw (sym (c .before .before .before .selected .ensures) ∙ c .before .enum-told .given .1) (c .left .ensures)
+
+returns-2 : tie.Need-returns-2
+returns-2 c =
     let e = rw (c .before .before .before .before .before .by-fields .ensures) at (c .before .before .before .before .step-in-place .ensures .0) in
-    rw (c .number .ensures, c .before .by-fields2 .ensures, c .before .before .by-registers .ensures) (ap lentStepOf e)
+    rw (sym (c .before .before .before .before .before .before .before .before .before .before .before .selected .ensures) ∙ c .before .before .before .before .before .before .before .before .before .model .given .1, c .number .ensures, c .before .by-fields2 .ensures, c .before .before .by-registers .ensures)
+    (ap lentStepOf e)
 
 pub step-by-parts-spec : {M : Type 1} → statement M
 step-by-parts-spec =
     tie.close
     (tie.spec
     (λ c κs. search needs)
+    (λ c. search needs)
+    (λ c. search needs)
+    (λ c κs. search needs)
+    returns
     (λ c κs. search needs)
     (λ c κs. search needs)
     (λ c κs. search needs)
     (λ c κs. search needs)
-    returns)
+    (λ c κs. search needs)
+    returns-2)

@@ -1,6 +1,8 @@
 use mathlib.Core.Path.{_≡_, _∙_, sym}
 use mathlib.Core.Bool.{true, and-true}
-use lib.Dec.{lit<}
+use native.Mathlib.Omega.{arith}
+use Rattle.memory.specs.Chip.{chipOf}
+use Rattle.memory.proofs.Numbers.{levels-fit, some-level}
 use borrow.Author.Tests.{not-true, not-false}
 use Rattle.sheet.specs.Entry.{raised, reached}
 use Rattle.sheet.proofs.Entries.{raised-byte, raised-reached}
@@ -10,20 +12,24 @@ use Rattle.verifier.proofs.rules.call_allowed.Statement.{statement}
 use Rattle.verifier.proofs.rules.call_allowed.Tie as tie
 
 returns : tie.Need-returns
-returns c = simp (sym (c .before .at-most .ensures) ∙ not-true _ (c .if1 .taken))
+returns c = simp (sym (c .before .leaves-room .ensures) ∙ not-true _ (c .if1 .taken))
 
 returns-2 : tie.Need-returns-2
 returns-2 c =
-    let free = sym (c .before .before .before .before .at-most .ensures) ∙ not-false _ (c .before .before .before .if1 .left) in
-    let higher = c .before .before .raised .ensures ∙ raised-byte 5 (lit< tt) _ free (lit< tt) in
+    let model = c .before .before .before .before .before .before .before .args .model in
+    let levels = chipOf model .levels in
+    let free = sym (c .before .before .before .before .leaves-room .ensures) ∙ not-false _ (c .before .before .before .if1 .left) in
+    let higher = c .before .before .raised .ensures ∙ raised-byte levels (some-level model) _ free (omega (arith, levels-fit model)) in
     simp (free, sym higher, sym (c .before .is-met .ensures) ∙ not-true _ (c .if2 .taken))
 
 returns-3 : tie.Need-returns-3
 unfolding ReturnDepths
 returns-3 c =
-    let free = sym (c .before .before .before .before .before .before .at-most .ensures) ∙ not-false _ (c .before .before .before .before .before .if1 .left) in
-    let higher = c .before .before .before .before .raised .ensures ∙ raised-byte 5 (lit< tt) _ free (lit< tt) in
-    let there : reached 5 (c .before .before .before .before .raised .result) ≡ true = rw higher (raised-reached 5 (lit< tt) _ free) in
+    let model = c .before .before .before .before .before .before .before .before .before .args .model in
+    let levels = chipOf model .levels in
+    let free = sym (c .before .before .before .before .before .before .leaves-room .ensures) ∙ not-false _ (c .before .before .before .before .before .if1 .left) in
+    let higher = c .before .before .before .before .raised .ensures ∙ raised-byte levels (some-level model) _ free (omega (arith, levels-fit model)) in
+    let there : reached levels (c .before .before .before .before .raised .result) ≡ true = rw higher (raised-reached levels (some-level model) _ free) in
     simp (
       free,
       sym higher,
@@ -34,9 +40,11 @@ returns-3 c =
 returns-4 : tie.Need-returns-4
 unfolding ReturnDepths
 returns-4 c =
-    let free = sym (c .before .before .before .before .before .before .before .before .before .at-most .ensures) ∙ not-false _ (c .before .before .before .before .before .before .before .before .if1 .left) in
-    let higher = c .before .before .before .before .before .before .before .raised .ensures ∙ raised-byte 5 (lit< tt) _ free (lit< tt) in
-    let there : reached 5 (c .before .before .before .before .before .before .before .raised .result) ≡ true = rw higher (raised-reached 5 (lit< tt) _ free) in
+    let model = c .before .before .before .before .before .before .before .before .before .before .before .before .args .model in
+    let levels = chipOf model .levels in
+    let free = sym (c .before .before .before .before .before .before .before .before .before .leaves-room .ensures) ∙ not-false _ (c .before .before .before .before .before .before .before .before .if1 .left) in
+    let higher = c .before .before .before .before .before .before .before .raised .ensures ∙ raised-byte levels (some-level model) _ free (omega (arith, levels-fit model)) in
+    let there : reached levels (c .before .before .before .before .before .before .before .raised .result) ≡ true = rw higher (raised-reached levels (some-level model) _ free) in
     simp (
       free,
       sym higher,
@@ -52,7 +60,6 @@ pub call-allowed-spec : {M : Type 1} → statement M
 call-allowed-spec =
     tie.close
     (tie.spec
-    (λ c. search needs)
     (λ c κs. search needs)
     returns
     (λ c κs. search needs)

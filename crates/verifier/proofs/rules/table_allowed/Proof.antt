@@ -7,7 +7,7 @@ returns : tie.Need-returns
 returns c = simp (ne-eqb _ _ (c .if1 .taken))
 
 returns-2 : tie.Need-returns-2
-returns-2 c = rw (eq-eqb _ _ (c .before .if1 .left)) (c .at-most .ensures)
+returns-2 c = rw (eq-eqb _ _ (c .before .if1 .left)) (c .leaves-room .ensures)
 
 pub table-allowed-spec : {M : Type 1} → statement M
-table-allowed-spec = tie.close (tie.spec returns (λ c. search needs) (λ c κs. search needs) returns-2)
+table-allowed-spec = tie.close (tie.spec returns (λ c κs. search needs) returns-2)
