@@ -1,7 +1,7 @@
 //! The ROMs that are timed. Each goes on for ever and is never refused.
 
 use reference::Instruction::{self, *};
-use reference::{encode, verify, Input, Station, Verdict};
+use reference::{encode, verify, Input, Model, Station, Verdict};
 
 /// The input of every step. Its directions are not read.
 pub const INPUT: Input =
@@ -55,7 +55,8 @@ pub fn halt() -> Vec<u16> {
     rom(&[Halt { cond: 0 }])
 }
 
-/// Sums and differences in decimal, with the index register.
+/// Sums and differences in decimal, with the index register, in cells that every
+/// model has.
 pub fn arithmetic() -> Vec<u16> {
     rom(&[
         OrMN { m: 0x7E, n: 1 },
@@ -149,6 +150,6 @@ fn called_block() -> [Instruction; 8] {
 /// The largest station: mixed words, a sheet that passes, and 4,095 input records.
 pub fn largest() -> Station {
     let (rom, depths) = mixed();
-    assert_eq!(verify(&rom, &depths), Verdict::Pass);
+    assert_eq!(verify(Model::Upd17132, &rom, &depths), Verdict::Pass);
     Station { rom, depths, inputs: vec![INPUT; 4095] }
 }

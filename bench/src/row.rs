@@ -5,16 +5,16 @@ use std::hint::black_box;
 use std::time::Instant;
 
 /// One emulator in a row.
-pub struct Side<S, C> {
+pub struct Side<S, R, C> {
     /// The records or buffers that it is lent.
     pub lent: S,
     /// Makes them as they are before every call. Not timed.
-    pub refill: fn(&mut S),
+    pub refill: R,
     /// The timed call.
     pub call: C,
 }
 
-impl<S, C> Side<S, C> {
+impl<S, R: FnMut(&mut S), C> Side<S, R, C> {
     /// One call: what it answers, and its nanoseconds.
     fn time<A>(&mut self) -> (A, f64)
     where
@@ -41,8 +41,8 @@ impl Row<'_> {
     /// accept, stop the program.
     pub fn print<S, T, A: PartialEq + Debug>(
         &self,
-        mut native: Side<S, impl FnMut(&mut S) -> A>,
-        mut proved: Side<T, impl FnMut(&mut T) -> A>,
+        mut native: Side<S, impl FnMut(&mut S), impl FnMut(&mut S) -> A>,
+        mut proved: Side<T, impl FnMut(&mut T), impl FnMut(&mut T) -> A>,
         same: impl Fn(&S, &T) -> bool,
     ) {
         let (mut natives, mut proveds) = (Times(vec![]), Times(vec![]));

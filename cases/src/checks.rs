@@ -4,11 +4,13 @@
 use reference::Verdict;
 
 use crate::emulators::Emulator;
-use crate::scan::{byte, hex, sweep, word, Head};
+use crate::scan::{byte, hex, model, sweep, word, Head};
 use crate::Bench;
 
+/// The model is the 17132, number 0, where none is named.
 #[derive(Default)]
 pub struct Checks {
+    model: u8,
     rom: Vec<u16>,
     sheet: Vec<u8>,
     at: usize,
@@ -28,7 +30,7 @@ impl Checks {
     }
 
     fn check(&self, emulator: &dyn Emulator) -> String {
-        match emulator.check(&self.rom, &self.sheet) {
+        match emulator.check(self.model, &self.rom, &self.sheet) {
             Verdict::Pass => "PASS".to_string(),
             Verdict::Fail { word, rule } => format!("FAIL {word:03X} {rule}"),
             Verdict::Refused(number) => format!("REFUSED {number}"),
@@ -67,6 +69,10 @@ impl Bench for Checks {
     }
 
     fn given(&mut self, line: &str) -> Result<(), String> {
+        if let Some(number) = model(line)? {
+            self.model = number;
+            return Ok(());
+        }
         match line.split(' ').collect::<Vec<_>>()[..] {
             ["fill", count, entry, word_] => self.fill(hex(count)?, byte(entry)?, word(word_)?),
             ["at", place] => self.at = hex(place)?,

@@ -1,9 +1,10 @@
 //! The two emulators behind the same calls. Numbers are those of
-//! include/pollwezen.h: 0 is done, 255 standing, and any other a refusal.
+//! include/pollwezen.h: 0 is done, 255 standing, and any other a refusal. A model
+//! goes by its number too.
 
 use pollwezen_host::{self as library, OutputReply, RunReply};
 use reference::station::{self, read_into, write_into};
-use reference::{Answer, Input, Machine, Report, Verdict};
+use reference::{Answer, Count, Input, Machine, Model, Report, Verdict};
 
 use crate::words::Row;
 
@@ -27,10 +28,17 @@ pub const RECORD: usize = 11;
 
 pub trait Emulator {
     fn name(&self) -> &'static str;
-    fn reset(&self) -> Machine;
-    fn step(&self, rom: &[u16], machine: &mut Machine, board: &Board) -> u8;
-    fn run(&self, rom: &[u16], machine: &mut Machine, board: &Board, budget: u32) -> RunReply;
-    fn check(&self, rom: &[u16], sheet: &[u8]) -> Verdict;
+    fn reset(&self, model: u8, machine: &mut Machine) -> u8;
+    fn step(&self, model: u8, rom: &[u16], machine: &mut Machine, board: &Board) -> u8;
+    fn run(
+        &self,
+        model: u8,
+        rom: &[u16],
+        machine: &mut Machine,
+        board: &Board,
+        budget: u32,
+    ) -> RunReply;
+    fn check(&self, model: u8, rom: &[u16], sheet: &[u8]) -> Verdict;
     /// What else a word is decoded to, where it is not this.
     fn decodes_else(&self, word: u16, row: Option<Row>) -> Option<String>;
     /// The number, and the word or 0.
@@ -70,20 +78,27 @@ impl Emulator for Library {
         "the library"
     }
 
-    fn reset(&self) -> Machine {
-        library::reset()
+    fn reset(&self, model: u8, machine: &mut Machine) -> u8 {
+        library::reset(model, machine)
     }
 
-    fn step(&self, rom: &[u16], machine: &mut Machine, board: &Board) -> u8 {
-        library::step(rom, machine, &board.input, board.pulse)
+    fn step(&self, model: u8, rom: &[u16], machine: &mut Machine, board: &Board) -> u8 {
+        library::step(model, rom, machine, &board.input, board.pulse)
     }
 
-    fn run(&self, rom: &[u16], machine: &mut Machine, board: &Board, budget: u32) -> RunReply {
-        library::run(rom, machine, &board.input, board.pulse, budget)
+    fn run(
+        &self,
+        model: u8,
+        rom: &[u16],
+        machine: &mut Machine,
+        board: &Board,
+        budget: u32,
+    ) -> RunReply {
+        library::run(model, rom, machine, &board.input, board.pulse, budget)
     }
 
-    fn check(&self, rom: &[u16], sheet: &[u8]) -> Verdict {
-        let checked = library::verify(rom, sheet);
+    fn check(&self, model: u8, rom: &[u16], sheet: &[u8]) -> Verdict {
+        let checked = library::verify(model, rom, sheet);
         match (checked.number, checked.word, checked.rule) {
             (0, 0, 0) => Verdict::Pass,
             (254, word, rule) => Verdict::Fail { word, rule },
@@ -143,26 +158,43 @@ impl Emulator for Second {
         "the second emulator"
     }
 
-    fn reset(&self) -> Machine {
-        Machine::reset()
+    fn reset(&self, model: u8, machine: &mut Machine) -> u8 {
+        match Model::of_number(model) {
+            Ok(model) => *machine = Machine::reset(model),
+            Err(number) => return number,
+        }
+        0
     }
 
-    fn step(&self, rom: &[u16], machine: &mut Machine, board: &Board) -> u8 {
-        match reference::step(rom, machine, &board.input, board.pulse) {
+    fn step(&self, model: u8, rom: &[u16], machine: &mut Machine, board: &Board) -> u8 {
+        let answer = Model::of_number(model)
+            .map(|model| reference::step(model, rom, machine, &board.input, board.pulse));
+        match answer.unwrap_or_else(Answer::Refused) {
             Answer::Done => 0,
             Answer::Standby => 255,
             Answer::Refused(number) => number,
         }
     }
 
-    fn run(&self, rom: &[u16], machine: &mut Machine, board: &Board, budget: u32) -> RunReply {
+    fn run(
+        &self,
+        model: u8,
+        rom: &[u16],
+        machine: &mut Machine,
+        board: &Board,
+        budget: u32,
+    ) -> RunReply {
         let Board { input, pulse } = board;
-        let Report { count, refusal } = reference::run(rom, machine, input, *pulse, budget);
+        let report = Model::of_number(model)
+            .map(|model| reference::run(model, rom, machine, input, *pulse, budget));
+        let none = |refusal| Report { count: Count::default(), refusal };
+        let Report { count, refusal } = report.unwrap_or_else(none);
         RunReply { steps: count.steps, cycles: count.cycles, number: refusal }
     }
 
-    fn check(&self, rom: &[u16], sheet: &[u8]) -> Verdict {
-        reference::verify(rom, sheet)
+    fn check(&self, model: u8, rom: &[u16], sheet: &[u8]) -> Verdict {
+        let verdict = Model::of_number(model).map(|model| reference::verify(model, rom, sheet));
+        verdict.unwrap_or_else(Verdict::Refused)
     }
 
     fn decodes_else(&self, word: u16, row: Option<Row>) -> Option<String> {

@@ -59,7 +59,7 @@ fn files() -> Box<dyn Bench> {
     Box::<files::Files>::default()
 }
 
-const KINDS: [Kind; 11] = [
+const KINDS: [Kind; 12] = [
     Kind { name: "printed", bench: || Box::new(words::Words) },
     Kind { name: "words", bench: || Box::new(words::Words) },
     Kind { name: "data", bench: programs },
@@ -68,6 +68,7 @@ const KINDS: [Kind; 11] = [
     Kind { name: "registers", bench: programs },
     Kind { name: "timer", bench: programs },
     Kind { name: "host", bench: programs },
+    Kind { name: "models", bench: programs },
     Kind { name: "checks", bench: || Box::<checks::Checks>::default() },
     Kind { name: "files", bench: files },
     Kind { name: "texts", bench: files },

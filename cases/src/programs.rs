@@ -4,7 +4,7 @@
 use pollwezen_host::RunReply;
 
 use crate::emulators::Emulator;
-use crate::scan::{hex, is_word, word, Head};
+use crate::scan::{hex, is_word, model, word, Head};
 use crate::setup::Setup;
 use crate::Bench;
 
@@ -16,6 +16,8 @@ const HALT: u16 = 0x3BF0;
 const BUDGET: u32 = 65_535;
 
 pub struct Programs {
+    /// The model's number; the 17132 where none is named.
+    model: u8,
     rom: Vec<u16>,
     words: usize,
     /// Where the next word goes.
@@ -25,7 +27,7 @@ pub struct Programs {
 
 impl Programs {
     pub fn new() -> Programs {
-        Programs { rom: vec![HALT; 1025], words: 64, at: 0, setup: Setup::new() }
+        Programs { model: 0, rom: vec![HALT; 1025], words: 64, at: 0, setup: Setup::new() }
     }
 
     fn put(&mut self, text: &str) -> Result<(), String> {
@@ -62,17 +64,13 @@ impl Programs {
 
     fn step(&mut self, emulator: &dyn Emulator) -> String {
         let Setup { machine, board } = &mut self.setup;
-        match emulator.step(&self.rom[..self.words], machine, board) {
-            0 => "done".to_string(),
-            255 => "standing".to_string(),
-            number => format!("refusal {number}"),
-        }
+        answered(emulator.step(self.model, &self.rom[..self.words], machine, board))
     }
 
     fn run(&mut self, budget: u32, emulator: &dyn Emulator) -> String {
         let Setup { machine, board } = &mut self.setup;
         let RunReply { steps, cycles, number } =
-            emulator.run(&self.rom[..self.words], machine, board, budget);
+            emulator.run(self.model, &self.rom[..self.words], machine, board, budget);
         let refusal = if number == 0 { String::new() } else { format!(", refusal {number}") };
         format!("{steps} steps, {cycles} cycles{refusal}")
     }
@@ -101,6 +99,15 @@ impl Programs {
     }
 }
 
+/// What a step or reset answers.
+fn answered(number: u8) -> String {
+    match number {
+        0 => "done".to_string(),
+        255 => "standing".to_string(),
+        number => format!("refusal {number}"),
+    }
+}
+
 /// The cycles that are told: a run's, or one for a step that is done.
 fn cycles(answers: &[&str]) -> usize {
     let told = answers.iter().find_map(|answer| answer.strip_suffix(" cycles")?.parse().ok());
@@ -121,6 +128,7 @@ impl Bench for Programs {
         match line.split_once(' ').unwrap_or((line, "")) {
             ("ORG", address) => self.at = hex(address)?,
             ("words", count) => self.words = hex(count)?.min(self.rom.len()),
+            ("model" | "number", _) => self.model = model(line)?.ok_or("no model")?,
             ("with", items) => self.with(items)?,
             _ => line.split(' ').try_for_each(|word| match is_word(word) {
                 true => self.put(word),
@@ -133,10 +141,7 @@ impl Bench for Programs {
     fn got(&mut self, line: &str, answer: &str, emulator: &dyn Emulator) -> Result<String, String> {
         let before = self.setup.clone();
         let given = match line.split_once(' ').unwrap_or((line, "")) {
-            ("reset", "") => {
-                self.setup.machine = emulator.reset();
-                "done".to_string()
-            }
+            ("reset", "") => answered(emulator.reset(self.model, &mut self.setup.machine)),
             ("step", "") => self.step(emulator),
             ("run", "") => self.run(BUDGET, emulator),
             ("run", budget) => self.run(hex(budget)? as u32, emulator),

@@ -111,6 +111,18 @@ pub fn word(text: &str) -> Result<u16, String> {
     hex(text)?.try_into().map_err(|_| format!("{text} is no word"))
 }
 
+/// The number of a model that a line names: `model 17120`, or `number FF` for one
+/// that is perhaps none's. None where it is another line.
+pub fn model(line: &str) -> Result<Option<u8>, String> {
+    match line.split(' ').collect::<Vec<_>>()[..] {
+        ["model", "17132"] => Ok(Some(0)),
+        ["model", "17120"] => Ok(Some(1)),
+        ["model", name] => Err(format!("{name} is no model")),
+        ["number", number] => byte(number).map(Some),
+        _ => Ok(None),
+    }
+}
+
 /// Is this a word of the ROM, four digits?
 pub fn is_word(text: &str) -> bool {
     text.len() == 4 && word(text).is_ok()

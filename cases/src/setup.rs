@@ -14,7 +14,7 @@
 //!     directions F F F F F    the input record's, which are not read
 //!     release 1, pulse 1
 
-use reference::{Machine, Peripherals};
+use reference::{Machine, Model, Peripherals};
 
 use crate::emulators::Board;
 use crate::scan::{byte, hex, word};
@@ -34,9 +34,9 @@ pub struct Setup {
 }
 
 impl Setup {
-    /// A reset machine, and inputs of zeros.
+    /// A reset machine, which is the same for every model, and inputs of zeros.
     pub fn new() -> Setup {
-        Setup { machine: Machine::reset(), board: Board::default() }
+        Setup { machine: Machine::reset(Model::Upd17132), board: Board::default() }
     }
 
     /// Sets what an item names.

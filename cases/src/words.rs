@@ -2,7 +2,7 @@
 //! and data/printed.cases.
 
 use reference::Instruction::{self, *};
-use reference::Machine;
+use reference::{Machine, Model};
 
 use crate::emulators::{Board, Emulator};
 use crate::scan::{is_word, word, Head};
@@ -153,7 +153,9 @@ fn printed(line: &str) -> Option<u16> {
 
 /// Is a word an instruction by the step?
 fn is_instruction(word: u16, emulator: &dyn Emulator) -> bool {
-    emulator.step(&[word], &mut Machine::reset(), &Board::default()) != 3
+    let model = Model::Upd17132;
+    let mut machine = Machine::reset(model);
+    emulator.step(model.number(), &[word], &mut machine, &Board::default()) != 3
 }
 
 fn all(emulator: &dyn Emulator) -> String {

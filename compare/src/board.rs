@@ -1,10 +1,11 @@
-//! What a host gives to a call: the input record, and the pulse bit beside it
-//! (document 02, E4).
+//! What a host gives to a call: the model of the board, the input record, and the
+//! pulse bit beside it (document 02, E1 and E4).
 
-use reference::Input;
+use reference::{Input, Model};
 
 #[derive(Clone, Copy, Debug)]
 pub struct Board {
+    pub model: Model,
     pub input: Input,
     pub pulse: u8,
 }

@@ -3,7 +3,7 @@
 //! in the last line of a text.
 
 use reference::station::read;
-use reference::Machine;
+use reference::{Machine, Model};
 
 use crate::board::Board;
 use crate::host::RunReply;
@@ -20,7 +20,7 @@ pub fn at_movt(rom: &[u16], machine: &Machine) -> bool {
 }
 
 /// The cycles of a step from `before`, where it is completed.
-pub fn of_step(rom: &[u16], before: &Machine) -> u32 {
+fn of_step(rom: &[u16], before: &Machine) -> u32 {
     if at_movt(rom, before) && before.skip == 0 {
         2
     } else {
@@ -100,18 +100,19 @@ pub fn run_of_one(
     Run { rom, before, board, budget: 1 }.is_as_told(told, after)
 }
 
-/// The last line of a file's text in both, by the file's steps in both, with
-/// pulse bit 0. A bad file has none.
+/// The last line of a file's text in both, by the file's steps in both, on the
+/// 17132 with pulse bit 0. A bad file has none.
 pub fn end(file: &[u8], text: &str, tally: &mut Tally) -> Result<(), Finding> {
     let Ok(station) = read(file) else {
         return Ok(());
     };
-    let (mut told, mut machine) = (NONE, pair::reset()?);
+    let model = Model::Upd17132;
+    let (mut told, mut machine) = (NONE, pair::reset(model)?);
     let (mut movts, mut standby) = (0, false);
     let mut halts = 0;
     for &input in &station.inputs {
         let before = machine.clone();
-        let number = pair::step(&station.rom, &mut machine, &Board { input, pulse: 0 })?;
+        let number = pair::step(&station.rom, &mut machine, &Board { model, input, pulse: 0 })?;
         add(&mut told, &station.rom, &before, number);
         if told.number != 0 {
             break;
@@ -133,6 +134,7 @@ pub fn end(file: &[u8], text: &str, tally: &mut Tally) -> Result<(), Finding> {
         (halts > 0, "texts in HALT"),
         (machine.peripherals.counter > 0, "texts with a pulse"),
         (told.number == 30, "texts refused with 30"),
+        (machine.cells[0x40..0x6F].iter().any(|&cell| cell > 0), "texts with upper RAM written"),
     ];
     tally.see_those(&see);
     Ok(())

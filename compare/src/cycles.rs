@@ -1,6 +1,6 @@
 //! Runs on ROMs with many MOVTs, which take two cycles each.
 
-use reference::Machine;
+use reference::{Machine, Model};
 
 use crate::counts::{at_movt, Run, NONE};
 use crate::host::RunReply;
@@ -17,6 +17,7 @@ pub const ALL: &[&str] = &[
     "MOVTs refused with 6",
     "MOVTs refused with 8",
     "runs refused after a MOVT",
+    "runs refused with 31 after a MOVT",
     "runs in standby after a MOVT",
     "runs cut behind a MOVT",
     "runs cut behind a skipped MOVT",
@@ -34,15 +35,16 @@ const BUDGET: u32 = 65_535;
 /// but MOVT.
 pub fn run(random: &mut Random, index: u64, tally: &mut Tally) -> Result<(), Finding> {
     let longest = index.is_multiple_of(2_048);
+    let model = if longest { Model::Upd17132 } else { records::model(random) };
     let rom = if longest { vec![words::MOVT; 1024] } else { tables(random) };
-    let before = if longest { pair::reset()? } else { machine(random, rom.len()) };
+    let before = if longest { pair::reset(model)? } else { machine(random, model, rom.len()) };
     let budget = match random.below(64) {
         _ if longest => BUDGET,
         0 => BUDGET,
         1..=4 => 0,
         _ => random.below(40) as u32,
     };
-    let board = records::board(random);
+    let board = records::board(random, model);
     let run = Run { rom: &rom, before: &before, board: &board, budget };
     let (told, after) = run.by_steps(|before, number, told, _| {
         if at_movt(&rom, before) {
@@ -75,8 +77,8 @@ fn tables(random: &mut Random) -> Vec<u16> {
 }
 
 /// A random machine, mostly with AR in the ROM.
-fn machine(random: &mut Random, words: usize) -> Machine {
-    let mut machine = records::machine(random, words);
+fn machine(random: &mut Random, model: Model, words: usize) -> Machine {
+    let mut machine = records::machine(random, model, words);
     if !random.once_in(4) {
         records::set_ar(&mut machine, random.word(words as u64));
     }
@@ -127,6 +129,7 @@ fn see_run(run: Run, told: RunReply, after: &Machine, tally: &mut Tally) {
     let tables = told.cycles > told.steps;
     tally.see_those(&[
         (tables && told.number != 0, "runs refused after a MOVT"),
+        (tables && told.number == 31, "runs refused with 31 after a MOVT"),
         (tables && after.standby != 0, "runs in standby after a MOVT"),
         (cut && at_movt(run.rom, after), "runs cut before a MOVT"),
         (told == NONE && run.budget > 0, "runs that stay in standby"),

@@ -1,5 +1,7 @@
 //! The edges by name.
 
+use reference::Model;
+
 use crate::places::*;
 
 /// The edges, each of which the part must meet.
@@ -7,6 +9,19 @@ pub const ALL: &[&str] = &[
     "cells of 15",
     "cells of 16",
     "cells with one fixed bit",
+    "missing cells of 0",
+    "missing cells with one bit",
+    "missing cells of 15",
+    "cells of 15 that the 17120 lacks",
+    "PC 767 of the 17120",
+    "PC 768 of the 17120",
+    "PC 1,023 of the 17120",
+    "PC 1,024 of the 17120",
+    "open places with 768 of the 17120",
+    "open places with 1,023 of the 17120",
+    "ROM of 768 for the 17120",
+    "ROM of 769 for the 17120",
+    "ROM of 1,024 for the 17120",
     "PC 1,023",
     "PC 1,024",
     "5 levels",
@@ -54,7 +69,37 @@ pub const ALL: &[&str] = &[
 
 impl Edge {
     pub fn name(self) -> Option<&'static str> {
+        match self.model {
+            Model::Upd17132 => self.name_of_17132(),
+            Model::Upd17120 => self.name_of_17120(),
+        }
+    }
+
+    /// Where the 17120 is another.
+    fn name_of_17120(self) -> Option<&'static str> {
         let name = match (self.place, self.value) {
+            (Cell(0x40..=0x6E), 0) => "missing cells of 0",
+            (Cell(0x40..=0x6E), 1 | 2 | 4 | 8) => "missing cells with one bit",
+            (Cell(0x40..=0x6E), 15) => "missing cells of 15",
+            (Pc, 767) => "PC 767 of the 17120",
+            (Pc, 768) => "PC 768 of the 17120",
+            (Pc, 1_023) => "PC 1,023 of the 17120",
+            (Pc, 1_024) => "PC 1,024 of the 17120",
+            (Stack(at, open), 768) if at < usize::from(open) => "open places with 768 of the 17120",
+            (Stack(at, open), 1_023) if at < usize::from(open) => {
+                "open places with 1,023 of the 17120"
+            }
+            (Words, 768) => "ROM of 768 for the 17120",
+            (Words, 769) => "ROM of 769 for the 17120",
+            (Words, 1_024) => "ROM of 1,024 for the 17120",
+            _ => return None,
+        };
+        Some(name)
+    }
+
+    fn name_of_17132(self) -> Option<&'static str> {
+        let name = match (self.place, self.value) {
+            (Cell(0x40..=0x6E), 15) => "cells of 15 that the 17120 lacks",
             (Cell(_), 15) if self.in_range() => "cells of 15",
             (Cell(_), 16) => "cells of 16",
             (Cell(_), 1 | 2 | 4 | 8) if !self.in_range() => "cells with one fixed bit",

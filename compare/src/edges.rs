@@ -7,7 +7,7 @@
 use std::fmt::Debug;
 use std::sync::OnceLock;
 
-use reference::{Input, Machine, Peripherals};
+use reference::{Input, Machine, Model, Peripherals};
 
 use crate::board::Board;
 use crate::host::VerdictReply;
@@ -27,7 +27,7 @@ pub fn edge(random: &mut Random, index: u64, tally: &mut Tally) -> Result<(), Fi
         return Err(Finding(format!("there are {} edges, and {COUNT} are told\n", edges.len())));
     }
     let edge = edges[(index % COUNT) as usize];
-    for mut call in [first(), last(), any(random)] {
+    for mut call in [first(edge.model), last(edge.model), any(random, edge.model)] {
         let mut budgets = vec![0, 1, 3];
         edge.put_into(&mut call, &mut budgets);
         call.is_as_told(edge, &budgets, tally)?;
@@ -40,17 +40,18 @@ pub fn edge(random: &mut Random, index: u64, tally: &mut Tally) -> Result<(), Fi
     Ok(())
 }
 
-fn first() -> Call {
-    let board = Board { input: Input::default(), pulse: 0 };
-    Call { words: 1, machine: Machine::reset(), board }
+fn first(model: Model) -> Call {
+    let board = Board { model, input: Input::default(), pulse: 0 };
+    Call { words: 1, machine: Machine::reset(model), board }
 }
 
-fn last() -> Call {
-    let cells = std::array::from_fn(|address| free_bits(address) as u8);
+fn last(model: Model) -> Call {
+    let words = most_words(model);
+    let cells = std::array::from_fn(|address| free_bits(model, address) as u8);
     let registers = std::array::from_fn(|place| kept_bits(place) as u8);
     let machine = Machine {
         cells,
-        pc: 1_023,
+        pc: words as u16 - 1,
         stack: [1_023; 5],
         levels: 5,
         skip: 1,
@@ -58,17 +59,18 @@ fn last() -> Call {
         peripherals: Peripherals { registers, modulo: 255, counter: 255, divider: 127 },
     };
     let input = Input { pins: [15; 5], directions: [15; 5], release: 1 };
-    Call { words: 1_024, machine, board: Board { input, pulse: 1 } }
+    Call { words, machine, board: Board { model, input, pulse: 1 } }
 }
 
-fn any(random: &mut Random) -> Call {
-    let words = 1 + random.below(1_024) as usize;
-    Call { words, machine: records::machine(random, words), board: records::board(random) }
+fn any(random: &mut Random, model: Model) -> Call {
+    let words = 1 + random.below(most_words(model) as u64) as usize;
+    let machine = records::machine(random, model, words);
+    Call { words, machine, board: records::board(random, model) }
 }
 
 impl Edge {
     fn put_into(self, call: &mut Call, budgets: &mut Vec<u32>) {
-        let Call { words, machine, board: Board { input, pulse } } = call;
+        let Call { words, machine, board: Board { input, pulse, .. } } = call;
         let timer = &mut machine.peripherals;
         let (byte, word) = (self.value as u8, self.value as u16);
         match self.place {
@@ -149,7 +151,7 @@ impl Call {
 }
 
 /// The check of a ROM of so many NOPs at level 0, with a sheet of its length,
-/// one entry less and one more.
+/// one entry less and one more. Only after 1,023 next is 0.
 fn check(edge: Edge, tally: &mut Tally) -> Result<(), Finding> {
     let words = edge.value as usize;
     let last = VerdictReply { number: pair::FAIL, word: (words as u16).wrapping_sub(1), rule: 4 };
@@ -162,11 +164,12 @@ fn check(edge: Edge, tally: &mut Tally) -> Result<(), Finding> {
             _ => last,
         };
         let sheet = vec![0; entries];
-        let checked = pair::verify(&nops()[..words], &sheet)?;
+        let checked = pair::verify(edge.model, &nops()[..words], &sheet)?;
         if checked != told {
             return Err(Finding(format!(
-                "the check of {words} words with {entries} entries: both answer {checked:?}, \
-                 by document 01 {told:?}\n"
+                "the check of {words} words with {entries} entries for the {:?}: \
+                 both answer {checked:?}, by documents 01 and 02 {told:?}\n",
+                edge.model
             )));
         }
         tally.answer(checked.number);

@@ -1,13 +1,15 @@
 //! Events at boundaries that single steps must meet: those of control, and
 //! operands that the index or a pointer moves.
 
+pub mod missing;
 pub mod timer;
 
-use reference::Machine;
+use reference::{Machine, Model};
 
 use crate::pair;
 use crate::ports::is_port;
 use crate::tally::Tally;
+use crate::told::Step;
 use crate::words;
 
 /// The events, each of which a part with steps must see.
@@ -42,11 +44,25 @@ pub const ALL: &[&str] = &[
     "r at 7FH",
     "@r with IXE and MPE",
     "@r with IXE alone",
+    "words of the 17120 that go on from 767",
+    "skipped words of the 17120 at 767",
+    "PC of 768 to 1,023 refused with 2",
+    "BR of the 17120 to 768 to 1,023",
+    "CALL of the 17120 to 768 to 1,023",
+    "MOVT of the 17120 with AR of 768 to 1,023",
 ];
 
-/// Counts the events of one step from `before` that answered `number`.
-pub fn count(rom: &[u16], before: &Machine, number: u8, tally: &mut Tally) {
-    let Some(&word) = rom.get(usize::from(before.pc)) else {
+/// Counts the events of one step. Those of missing operands are in `missing`.
+pub fn count(step: &Step, tally: &mut Tally) {
+    match step.board.model {
+        Model::Upd17132 => at_boundaries(step, tally),
+        Model::Upd17120 => past_767(step, tally),
+    }
+}
+
+fn at_boundaries(step: &Step, tally: &mut Tally) {
+    let Step { rom, before, number, .. } = *step;
+    let Some(word) = step.word() else {
         return;
     };
     if number == pair::STANDBY {
@@ -77,6 +93,31 @@ pub fn count(rom: &[u16], before: &Machine, number: u8, tally: &mut Tally) {
             tally.see("MOVT of the ROM's last word");
         }
     }
+}
+
+/// The 17120 around and past its last word, in ten bits of PC and AR.
+fn past_767(step: &Step, tally: &mut Tally) {
+    let Step { before, number, .. } = *step;
+    let at_end = before.pc == 767 && number == pair::DONE;
+    let Some(word) = step.word() else {
+        if before.pc >= 768 && number == 2 {
+            tally.see("PC of 768 to 1,023 refused with 2");
+        }
+        return;
+    };
+    if before.skip == 1 {
+        return tally.see_those(&[(at_end, "skipped words of the 17120 at 767")]);
+    }
+    let far = number == pair::DONE && (768..1024).contains(&(word & 0x7FF));
+    tally.see_those(&[
+        (at_end && !words::jumps(word), "words of the 17120 that go on from 767"),
+        (far && words::is_br(word), "BR of the 17120 to 768 to 1,023"),
+        (far && words::is_call(word), "CALL of the 17120 to 768 to 1,023"),
+        (
+            word == words::MOVT && number == 8 && ar(before) >= 768,
+            "MOVT of the 17120 with AR of 768 to 1,023",
+        ),
+    ]);
 }
 
 /// AR and IX where they go on at 0.

@@ -2,8 +2,7 @@
 
 use std::fmt::{UpperHex, Write};
 
-use reference::machine::ROM_WORDS;
-use reference::{Machine, Peripherals};
+use reference::{Machine, Model, Peripherals};
 
 use crate::board::Board;
 
@@ -69,7 +68,7 @@ pub fn show_rom(rom: &[u16]) -> String {
 
 /// What is printed of a list: as much as a ROM or a sheet can have.
 pub fn shown<T>(list: &[T]) -> &[T] {
-    &list[..list.len().min(ROM_WORDS)]
+    &list[..list.len().min(Model::Upd17132.rom_words())]
 }
 
 /// A machine as text: eight rows of cells, then registers and timer,

@@ -1,14 +1,17 @@
-//! Random lists of steps and runs from reset on ROMs that pass, with the
-//! words of demand 3 tested at every moment.
+//! Random lists of steps and runs from reset on ROMs that pass for a model, with
+//! the words of demand 3 tested at every moment. On the 17120 a call that has all
+//! in range may be refused with 31 (document 02, E1), and the moments go on.
 
 use reference::verify::NEVER;
-use reference::Machine;
+use reference::{Machine, Model};
 
 use crate::board::Board;
 use crate::clock;
 use crate::counts;
 use crate::host::RunReply;
+use crate::operands;
 use crate::pair::{self, Finding};
+use crate::places::most_words;
 use crate::random::Random;
 use crate::records;
 use crate::roms::{passing, Passing};
@@ -20,16 +23,50 @@ use crate::words;
 /// Calls in a list.
 const CALLS: u64 = 40;
 
-/// One ROM and its list. Every other ROM takes the next length in turn.
+/// The events that the part must see.
+pub const ALL: &[&str] = &[
+    "wraps at 1,023",
+    "skipped MOVTs",
+    "other skipped words",
+    "CALLs with the clause",
+    "CALLs without it",
+    "RETs at a level with RETSK",
+    "RETs at a level without",
+    "RETSKs",
+    "MOVTs",
+    "PEEKs",
+    "POKEs",
+    "GETs",
+    "PUTs",
+    "pulses of the INT pin",
+    "steps in HALT",
+    "steps in STOP",
+    "CALLs of the 17120",
+    "RETs and RETSKs of the 17120",
+    "refused with 31 at level 0",
+    "refused with 31 at a higher level",
+    "refused with 31 again",
+    "refused with 1 after 31",
+    "budget 0 after 31",
+    "runs refused with 31 at once",
+    "runs refused with 31 after some steps",
+    "runs of 1,000 steps on the 17120",
+];
+
+/// One ROM and its list, for each model in turn. Every other ROM of a model takes
+/// the next length in turn.
 pub fn list(random: &mut Random, index: u64, tally: &mut Tally) -> Result<(), Finding> {
-    let words = match index % 2 {
-        0 => index / 2 % 1024 + 1,
-        _ => random.pick(&[1023, 1024, 1024]),
+    let model = Model::ALL[(index % 2) as usize];
+    let (turn, most) = (index / 2, most_words(model));
+    let words = match turn % 2 {
+        0 => (turn / 2) as usize % most + 1,
+        _ => random.pick(&[most - 1, most, most]),
     };
-    let case = passing(random, words as usize);
+    let case = passing(random, model, words);
     passes(&case)?;
     let skipping = skipping(&case);
-    let mut walk = Walk { case: &case, skipping, machine: pair::reset()?, open: 0 };
+    let machine = pair::reset(model)?;
+    let mut walk = Walk { case: &case, skipping, machine, open: 0, stopped: false };
     walk.moment(&walk.machine)?;
     for _ in 0..random.below(CALLS) {
         call(random, &mut walk, tally)?;
@@ -46,7 +83,7 @@ fn skipping(case: &Passing) -> u8 {
 
 /// One call, with its own inputs and budget, some of them out of range.
 fn call(random: &mut Random, walk: &mut Walk, tally: &mut Tally) -> Result<(), Finding> {
-    let mut board = records::board(random);
+    let mut board = records::board(random, walk.case.model);
     if random.once_in(16) {
         records::spoil_board(random, &mut board);
     }
@@ -69,12 +106,14 @@ struct Walk<'a> {
     skipping: u8,
     machine: Machine,
     open: u8,
+    /// Refused with 31, and no step completed since.
+    stopped: bool,
 }
 
 impl Walk<'_> {
-    /// A step: refused with 1 exactly where its inputs are out of range, and
-    /// never with another number. One that is not completed leaves all but the
-    /// timer, which runs in HALT.
+    /// A step: refused with 1 exactly where its inputs are out of range, with 31
+    /// exactly where an operand is missing, and never with another number. One
+    /// that is not completed leaves all but the timer, which runs in HALT.
     fn step(&mut self, board: &Board, tally: &mut Tally) -> Result<u8, Finding> {
         let before = self.machine.clone();
         let number = pair::step(&self.case.rom, &mut self.machine, board)?;
@@ -84,6 +123,7 @@ impl Walk<'_> {
             true if board.keeps_standing(before.standby) => {
                 (pair::STANDBY, clock::after_standing(&before, board.pulse))
             }
+            true if operands::meets_31(&self.case.rom, &before, board) => (31, before.peripherals),
             true => {
                 let word = self.case.rom[usize::from(before.pc)];
                 (pair::DONE, clock::after_step(&before, word, board.pulse))
@@ -99,10 +139,22 @@ impl Walk<'_> {
             pair::STANDBY => {
                 tally.see(if before.standby == 1 { "steps in HALT" } else { "steps in STOP" });
             }
-            _ => {}
+            _ => self.count_refusal(number, tally),
         }
         self.moment(&before)?;
         Ok(number)
+    }
+
+    /// A refusal with 31 leaves the machine at its word, so that the calls after it
+    /// are refused as well.
+    fn count_refusal(&mut self, number: u8, tally: &mut Tally) {
+        tally.see_those(&[
+            (number == 31 && self.stopped, "refused with 31 again"),
+            (number == 31 && self.open == 0, "refused with 31 at level 0"),
+            (number == 31 && self.open > 0, "refused with 31 at a higher level"),
+            (number == 1 && self.stopped, "refused with 1 after 31"),
+        ]);
+        self.stopped |= number == 31;
     }
 
     /// The steps of a run one by one, its moments, and then the run itself: its
@@ -112,13 +164,10 @@ impl Walk<'_> {
         let in_range = board.in_range() && budget <= 65_535;
         let mut expected = RunReply { steps: 0, cycles: 0, number: u8::from(!in_range) };
         while in_range && expected.steps < budget {
-            let cycles = counts::of_step(&self.case.rom, &self.machine);
-            if self.step(board, tally)? != pair::DONE {
-                break;
-            }
-            expected.steps += 1;
-            expected.cycles += cycles;
-            if self.machine.standby != 0 {
+            let earlier = self.machine.clone();
+            let number = self.step(board, tally)?;
+            counts::add(&mut expected, &self.case.rom, &earlier, number);
+            if number != pair::DONE || self.machine.standby != 0 {
                 break;
             }
         }
@@ -126,6 +175,7 @@ impl Walk<'_> {
         let report = pair::run(&self.case.rom, &mut machine, board, budget)?;
         tally.answer(report.number);
         if report == expected && machine == self.machine {
+            self.count_run(report, budget, tally);
             return Ok(());
         }
         let what = format!(
@@ -136,9 +186,21 @@ impl Walk<'_> {
         Err(self.broken(&what, &before))
     }
 
+    fn count_run(&self, report: RunReply, budget: u32, tally: &mut Tally) {
+        let RunReply { steps, number, .. } = report;
+        let small = self.case.model == Model::Upd17120;
+        tally.see_those(&[
+            (number == 31 && steps == 0, "runs refused with 31 at once"),
+            (number == 31 && steps > 0, "runs refused with 31 after some steps"),
+            (self.stopped && budget == 0 && number == 0, "budget 0 after 31"),
+            (small && steps >= 1_000, "runs of 1,000 steps on the 17120"),
+        ]);
+    }
+
     /// A completed step: what it adds to the open calls, and what is worth
     /// counting. A skipped word adds nothing.
     fn count(&mut self, before: &Machine, board: &Board, tally: &mut Tally) {
+        self.stopped = false;
         let word = self.case.rom[usize::from(before.pc)];
         let skipped = before.skip == 1;
         self.count_pulse(before, board, tally);
@@ -150,6 +212,11 @@ impl Walk<'_> {
             tally.see(if word == words::MOVT { "skipped MOVTs" } else { "other skipped words" });
             return;
         }
+        let small = self.case.model == Model::Upd17120;
+        tally.see_those(&[
+            (small && words::is_call(word), "CALLs of the 17120"),
+            (small && words::is_return(word), "RETs and RETSKs of the 17120"),
+        ]);
         if words::is_call(word) {
             self.open = self.open.wrapping_add(1);
             tally.see(if self.clause() { "CALLs with the clause" } else { "CALLs without it" });
@@ -194,9 +261,10 @@ impl Walk<'_> {
 
     /// What is wrong though the two emulators agree.
     fn broken(&self, what: &str, before: &Machine) -> Finding {
-        let Passing { rom, depths } = self.case;
+        let Passing { model, rom, depths } = self.case;
         Finding(format!(
-            "{what}\nword {}, before:\n{}word {}, after:\n{}ROM: {rom:04X?}\nsheet: {depths:?}\n",
+            "{model:?}: {what}\nword {}, before:\n{}word {}, after:\n{}\
+             ROM: {rom:04X?}\nsheet: {depths:?}\n",
             pair::word_at(rom, before.pc),
             pair::show(before),
             pair::word_at(rom, self.machine.pc),

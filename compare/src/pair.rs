@@ -1,7 +1,7 @@
 //! The two emulators side by side: each call goes to both, and a finding
 //! tells what differs.
 
-use reference::{Answer, Machine, Report, Verdict};
+use reference::{Answer, Machine, Model, Peripherals, Report, Verdict};
 
 use crate::board::Board;
 use crate::clock;
@@ -16,8 +16,12 @@ pub const FAIL: u8 = 254;
 pub const STANDBY: u8 = 255;
 
 /// Reset in both, which is all zeros but for the timer.
-pub fn reset() -> Result<Machine, Finding> {
-    let (proved, second) = (host::reset(), Machine::reset());
+pub fn reset(model: Model) -> Result<Machine, Finding> {
+    let (mut proved, second) = (used(), Machine::reset(model));
+    let number = host::reset(model.number(), &mut proved);
+    if number != DONE {
+        return Err(Finding(format!("reset of the {model:?} is refused with {number}\n")));
+    }
     if let Some(first) = difference(&proved, &second) {
         return Err(Finding(format!("reset differs\nfirst difference: {first}\n")));
     }
@@ -29,21 +33,56 @@ pub fn reset() -> Result<Machine, Finding> {
     Err(Finding(format!("both resets are not what the papers tell:\n{}", show(&proved))))
 }
 
+/// A record in which no byte is as reset leaves it.
+pub fn used() -> Machine {
+    let peripherals =
+        Peripherals { registers: [0x5A; 7], modulo: 0x5A, counter: 0x5A, divider: 0x5A };
+    Machine {
+        cells: [0x5A; 128],
+        pc: 0x5A5A,
+        stack: [0x5A5A; 5],
+        levels: 0x5A,
+        skip: 0x5A,
+        standby: 0x5A,
+        peripherals,
+    }
+}
+
 /// One step in both, on `machine`. Answers the step's number.
 pub fn step(rom: &[u16], machine: &mut Machine, board: &Board) -> Result<u8, Finding> {
     let before = machine.clone();
     let mut second = before.clone();
-    let number = host::step(rom, machine, &board.input, board.pulse);
-    let answer = match reference::step(rom, &mut second, &board.input, board.pulse) {
-        Answer::Done => DONE,
-        Answer::Standby => STANDBY,
-        Answer::Refused(refusal) => refusal,
-    };
+    let Board { model, input, pulse } = *board;
+    let number = host::step(model.number(), rom, machine, &input, pulse);
+    let answer = number_of(reference::step(model, rom, &mut second, &input, pulse));
     if number == answer && *machine == second {
         return Ok(number);
     }
     let left = outcome(&format!("number {number}"), &format!("number {answer}"), machine, &second);
     Err(Finding(case("step", rom, &before, board) + &left))
+}
+
+/// The header's number for what a step answers.
+pub fn number_of(answer: Answer) -> u8 {
+    match answer {
+        Answer::Done => DONE,
+        Answer::Standby => STANDBY,
+        Answer::Refused(refusal) => refusal,
+    }
+}
+
+/// A run's report as the header has it.
+pub fn reply_of(Report { count, refusal }: Report) -> RunReply {
+    RunReply { steps: count.steps, cycles: count.cycles, number: refusal }
+}
+
+/// A verdict as the header has it.
+pub fn verdict_of(verdict: Verdict) -> VerdictReply {
+    match verdict {
+        Verdict::Pass => VerdictReply { number: DONE, word: 0, rule: 0 },
+        Verdict::Fail { word, rule } => VerdictReply { number: FAIL, word, rule },
+        Verdict::Refused(number) => VerdictReply { number, word: 0, rule: 0 },
+    }
 }
 
 /// One run in both, on `machine`.
@@ -69,10 +108,9 @@ fn both_run(
 ) -> Result<RunReply, String> {
     let before = machine.clone();
     let mut second = before.clone();
-    let Board { input, pulse } = *board;
-    let report = host::run(rom, machine, &input, pulse, budget);
-    let Report { count, refusal } = reference::run(rom, &mut second, &input, pulse, budget);
-    let answer = RunReply { steps: count.steps, cycles: count.cycles, number: refusal };
+    let Board { model, input, pulse } = *board;
+    let report = host::run(model.number(), rom, machine, &input, pulse, budget);
+    let answer = reply_of(reference::run(model, rom, &mut second, &input, pulse, budget));
     if report == answer && *machine == second {
         return Ok(report);
     }
@@ -95,19 +133,15 @@ fn odd_step(rom: &[u16], mut machine: Machine, board: &Board, budget: u32) -> St
     "in a run, though no single step disagrees\n".to_string()
 }
 
-/// The check in both.
-pub fn verify(rom: &[u16], depths: &[u8]) -> Result<VerdictReply, Finding> {
-    let checked = host::verify(rom, depths);
-    let answer = match reference::verify(rom, depths) {
-        Verdict::Pass => VerdictReply { number: DONE, word: 0, rule: 0 },
-        Verdict::Fail { word, rule } => VerdictReply { number: FAIL, word, rule },
-        Verdict::Refused(number) => VerdictReply { number, word: 0, rule: 0 },
-    };
+/// The check for a model in both.
+pub fn verify(model: Model, rom: &[u16], depths: &[u8]) -> Result<VerdictReply, Finding> {
+    let checked = host::verify(model.number(), rom, depths);
+    let answer = verdict_of(reference::verify(model, rom, depths));
     if checked == answer {
         return Ok(checked);
     }
     Err(Finding(format!(
-        "verify, {} words and {} entries\n{}sheet: {:?}\n\
+        "verify for the {model:?}, {} words and {} entries\n{}sheet: {:?}\n\
          first difference: proved {}, second {}\n",
         rom.len(),
         depths.len(),

@@ -19,15 +19,17 @@ pub fn switch(fault: u64) -> bool {
 /// The part that is for a fault.
 fn part_for(fault: u32) -> &'static str {
     match fault {
-        12 => "runs",
-        14 | 24 | 83 | 84 => "verdicts",
+        12 | 99 => "runs",
+        14 | 24 | 83 | 84 | 111..=114 => "verdicts",
         25 | 30 | 31 | 49 => "entries",
         27 | 28 | 32 => "codes",
-        29 | 33..=39 => "edges",
+        29 | 33..=39 | 103..=108 | 110 => "edges",
         40..=48 => "cycles",
         63 => "lists",
         76 | 77 => "timer runs",
         50..=82 => "timer",
+        85..=95 | 97 | 98 | 100..=102 => "missing",
+        115 => "models",
         _ => "steps",
     }
 }

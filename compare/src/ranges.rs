@@ -1,16 +1,16 @@
-//! Records, inputs, ROMs and budgets out of range by one fault each: both
-//! emulators refuse with 1 and leave the record as it came.
+//! Records, inputs, ROMs and budgets out of range for a model by one fault each:
+//! both emulators refuse with 1 and leave the record as it came.
 
 use std::fmt::Debug;
 use std::sync::OnceLock;
 
-use reference::machine::WRITABLE;
-use reference::Machine;
+use reference::{Machine, Model};
 
 use crate::board::Board;
 use crate::clock::KEPT;
 use crate::host::RunReply;
 use crate::pair::{self, Finding};
+use crate::places::free_bits;
 use crate::random::Random;
 use crate::records;
 use crate::tally::Tally;
@@ -21,6 +21,8 @@ use crate::words;
 enum Kind {
     /// A bit of a cell that is above the nibble or fixed.
     Cell(usize, u8),
+    /// A bit of a cell that the 17120 lacks.
+    Missing(usize, u8),
     /// A bit of PC above the tenth.
     Pc(u8),
     /// A bit of an open place above the tenth.
@@ -39,6 +41,8 @@ enum Kind {
     Pulse,
     EmptyRom,
     LongRom,
+    /// A ROM that the 17132 could have.
+    LongRomOf17120,
     Budget,
 }
 
@@ -56,11 +60,11 @@ struct Call {
 /// One random call with the fault of kind `index`.
 pub fn one_fault(random: &mut Random, index: u64, tally: &mut Tally) -> Result<(), Finding> {
     let kinds = kinds();
-    let kind = kinds[(index % kinds.len() as u64) as usize];
+    let (model, kind) = kinds[(index % kinds.len() as u64) as usize];
     let words = 1 + random.below(16);
     let rom: Vec<u16> = (0..words).map(|_| words::any(random)).collect();
-    let machine = records::machine(random, rom.len());
-    let board = records::board(random);
+    let machine = records::machine(random, model, rom.len());
+    let board = records::board(random, model);
     let budget = if random.once_in(8) { 0 } else { random.below(65_536) as u32 };
     let mut call = Call { rom, machine, board, budget };
     kind.put_into(&mut call, random);
@@ -108,37 +112,48 @@ impl Call {
     }
 }
 
-/// Every kind once.
-fn kinds() -> &'static [Kind] {
-    static KINDS: OnceLock<Vec<Kind>> = OnceLock::new();
+/// Every kind once, for each model that has it.
+fn kinds() -> &'static [(Model, Kind)] {
+    static KINDS: OnceLock<Vec<(Model, Kind)>> = OnceLock::new();
     KINDS.get_or_init(|| {
-        let mut kinds = vec![
-            Kind::Levels,
-            Kind::Skip,
-            Kind::Standby,
-            Kind::Divider,
-            Kind::Release,
-            Kind::Pulse,
-            Kind::EmptyRom,
-            Kind::LongRom,
-            Kind::Budget,
-        ];
-        for (cell, kept) in WRITABLE.iter().enumerate() {
-            let barred = (0..8).filter(|bit| kept >> bit & 1 == 0);
-            kinds.extend(barred.map(|bit| Kind::Cell(cell, bit)));
-        }
-        for (place, kept) in KEPT.iter().enumerate() {
-            let barred = (0..8).filter(|bit| kept >> bit & 1 == 0);
-            kinds.extend(barred.map(|bit| Kind::Register(place, bit)));
-        }
-        kinds.extend((10..16).map(Kind::Pc));
-        for place in 0..5 {
-            kinds.extend([Kind::Pin(place), Kind::Direction(place)]);
-            kinds.extend((10..16).map(|bit| Kind::Open(place, bit)));
-            kinds.extend((0..16).map(|bit| Kind::Closed(place, bit)));
-        }
-        kinds
+        let of = |model| kinds_of(model).into_iter().map(move |kind| (model, kind));
+        Model::ALL.into_iter().flat_map(of).collect()
     })
+}
+
+fn kinds_of(model: Model) -> Vec<Kind> {
+    let mut kinds = vec![
+        Kind::Levels,
+        Kind::Skip,
+        Kind::Standby,
+        Kind::Divider,
+        Kind::Release,
+        Kind::Pulse,
+        Kind::EmptyRom,
+        Kind::LongRom,
+        Kind::Budget,
+    ];
+    for cell in 0..128 {
+        let other = free_bits(Model::Upd17132, cell);
+        let barred = (0..8).filter(|bit| other >> bit & 1 == 0);
+        kinds.extend(barred.map(|bit| Kind::Cell(cell, bit)));
+        let missing = (0..8).filter(|bit| (other & !free_bits(model, cell)) >> bit & 1 == 1);
+        kinds.extend(missing.map(|bit| Kind::Missing(cell, bit)));
+    }
+    for (place, kept) in KEPT.iter().enumerate() {
+        let barred = (0..8).filter(|bit| kept >> bit & 1 == 0);
+        kinds.extend(barred.map(|bit| Kind::Register(place, bit)));
+    }
+    kinds.extend((10..16).map(Kind::Pc));
+    for place in 0..5 {
+        kinds.extend([Kind::Pin(place), Kind::Direction(place)]);
+        kinds.extend((10..16).map(|bit| Kind::Open(place, bit)));
+        kinds.extend((0..16).map(|bit| Kind::Closed(place, bit)));
+    }
+    if model == Model::Upd17120 {
+        kinds.push(Kind::LongRomOf17120);
+    }
+    kinds
 }
 
 impl Kind {
@@ -146,6 +161,7 @@ impl Kind {
         match self {
             Kind::Cell(_, 0..=3) => "with a fixed bit set",
             Kind::Cell(..) => "with a cell above 15",
+            Kind::Missing(..) => "with a missing cell not 0",
             Kind::Pc(_) => "with PC above 1,023",
             Kind::Open(..) => "with a stacked address above 1,023",
             Kind::Closed(..) => "with a closed level not 0",
@@ -162,14 +178,15 @@ impl Kind {
             Kind::Pulse => "with a pulse above 1",
             Kind::EmptyRom => "with a ROM of no words",
             Kind::LongRom => "with a ROM of more than 1,024 words",
+            Kind::LongRomOf17120 => "with a ROM of 769 to 1,024 words for the 17120",
             Kind::Budget => "with a budget above 65,535",
         }
     }
 
     fn put_into(self, call: &mut Call, random: &mut Random) {
-        let Call { rom, machine, board: Board { input, pulse }, budget } = call;
+        let Call { rom, machine, board: Board { input, pulse, .. }, budget } = call;
         match self {
-            Kind::Cell(cell, bit) => machine.cells[cell] |= 1 << bit,
+            Kind::Cell(cell, bit) | Kind::Missing(cell, bit) => machine.cells[cell] |= 1 << bit,
             Kind::Pc(bit) => machine.pc |= 1 << bit,
             Kind::Open(place, bit) => {
                 machine.levels = machine.levels.max(place as u8 + 1);
@@ -192,6 +209,9 @@ impl Kind {
             Kind::EmptyRom => rom.clear(),
             Kind::LongRom => {
                 rom.resize(random.pick(&[1025, 1026, 2048, 65_536, 65_537, 66_000]), words::NOP);
+            }
+            Kind::LongRomOf17120 => {
+                rom.resize(random.pick(&[769, 770, 800, 1023, 1024]), words::NOP);
             }
             Kind::Budget => *budget = 65_536 << random.below(16) | random.below(65_536) as u32,
         }

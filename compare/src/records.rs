@@ -1,16 +1,25 @@
 //! Random machines and inputs in range, and inputs out of it.
 
-use reference::machine::{LAST_ADDRESS, WRITABLE};
-use reference::{Input, Machine};
+use reference::machine::LAST_ADDRESS;
+use reference::{Input, Machine, Model};
 
 use crate::board::Board;
 use crate::random::Random;
 use crate::timers;
 
-/// A random machine for a ROM of so many words.
-pub fn machine(random: &mut Random, words: usize) -> Machine {
-    let mut machine = Machine::reset();
-    fill(random, &mut machine, |nibble| nibble);
+/// A model for one of many cases: mostly the 17132.
+pub fn model(random: &mut Random) -> Model {
+    if random.once_in(4) {
+        Model::Upd17120
+    } else {
+        Model::Upd17132
+    }
+}
+
+/// A random machine of a model for a ROM of so many words.
+pub fn machine(random: &mut Random, model: Model, words: usize) -> Machine {
+    let mut machine = Machine::reset(model);
+    fill(random, model, &mut machine, |nibble| nibble);
     weigh(random, &mut machine);
     control(random, &mut machine, words);
     machine
@@ -19,10 +28,10 @@ pub fn machine(random: &mut Random, words: usize) -> Machine {
 /// A machine whose cells are mostly first and last nibbles or next to them.
 /// Index, row pointer, AR, PC and stack are weighted as in `machine`. The low
 /// four bits of `flags` are IXE, MPE, BCD and CMP.
-pub fn boundary(random: &mut Random, words: usize, flags: u8) -> Machine {
+pub fn boundary(random: &mut Random, model: Model, words: usize, flags: u8) -> Machine {
     const NIBBLES: [u8; 16] = [0, 0, 0, 1, 2, 5, 7, 8, 9, 9, 10, 11, 14, 15, 15, 15];
-    let mut machine = Machine::reset();
-    fill(random, &mut machine, |nibble| NIBBLES[usize::from(nibble)]);
+    let mut machine = Machine::reset(model);
+    fill(random, model, &mut machine, |nibble| NIBBLES[usize::from(nibble)]);
     weigh(random, &mut machine);
     put(&mut machine, Machine::PSW, Machine::IXE, flags & 1 != 0);
     put(&mut machine, Machine::IXH, Machine::MPE, flags & 2 != 0);
@@ -32,12 +41,13 @@ pub fn boundary(random: &mut Random, words: usize, flags: u8) -> Machine {
     machine
 }
 
-/// A machine at the end of a ROM of 1,024 words, with AR at 3FFH, no mark and
-/// so many open levels. Where CMP is 0, IX is 7FH.
-pub fn corner(random: &mut Random, flags: u8, levels: u8) -> Machine {
-    let mut machine = boundary(random, 1024, flags);
-    machine.pc = LAST_ADDRESS;
-    set_ar(&mut machine, LAST_ADDRESS);
+/// A machine at the end of the model's longest ROM, with AR there too, no mark
+/// and so many open levels. Where CMP is 0, IX is 7FH.
+pub fn corner(random: &mut Random, model: Model, flags: u8, levels: u8) -> Machine {
+    let words = model.rom_words();
+    let mut machine = boundary(random, model, words, flags);
+    machine.pc = words as u16 - 1;
+    set_ar(&mut machine, words as u16 - 1);
     if flags & 8 == 0 {
         set_index(&mut machine, 0x7F);
     }
@@ -64,9 +74,9 @@ pub fn input(random: &mut Random) -> Input {
     input
 }
 
-/// A random input record with a random pulse bit.
-pub fn board(random: &mut Random) -> Board {
-    Board { input: input(random), pulse: random.byte(2) }
+/// A board with a random input record and a random pulse bit.
+pub fn board(random: &mut Random, model: Model) -> Board {
+    Board { model, input: input(random), pulse: random.byte(2) }
 }
 
 /// Puts one value out of range.
@@ -89,9 +99,9 @@ pub fn spoil_input(random: &mut Random, input: &mut Input) {
     }
 }
 
-/// Every cell by a random nibble, its fixed bits 0.
-fn fill(random: &mut Random, machine: &mut Machine, content: impl Fn(u8) -> u8) {
-    for (row, bits) in machine.cells.chunks_exact_mut(16).zip(WRITABLE.chunks_exact(16)) {
+/// Every cell that the model has by a random nibble, its fixed bits 0.
+fn fill(random: &mut Random, model: Model, machine: &mut Machine, content: impl Fn(u8) -> u8) {
+    for (row, bits) in machine.cells.chunks_exact_mut(16).zip(model.writable().chunks_exact(16)) {
         let nibbles = random.bits();
         for (column, (cell, kept)) in row.iter_mut().zip(bits).enumerate() {
             *cell = content((nibbles >> (4 * column) & 0xF) as u8) & kept;
@@ -174,14 +184,14 @@ pub fn set_ar(machine: &mut Machine, ar: u16) {
     set(machine, Machine::AR0, (ar & 0xF) as u8);
 }
 
-fn set_index(machine: &mut Machine, index: u8) {
+pub fn set_index(machine: &mut Machine, index: u8) {
     set(machine, Machine::IXM, index >> 4);
     set(machine, Machine::IXL, index & 0xF);
 }
 
-/// Stores a nibble without its fixed bits.
-fn set(machine: &mut Machine, address: u8, nibble: u8) {
-    machine.cells[usize::from(address)] = nibble & WRITABLE[usize::from(address)];
+/// Stores a nibble without its fixed bits in a cell that every model has.
+pub fn set(machine: &mut Machine, address: u8, nibble: u8) {
+    machine.cells[usize::from(address)] = nibble & Model::Upd17120.writable()[usize::from(address)];
 }
 
 /// Sets or clears a flag.

@@ -2,7 +2,7 @@
 
 use reference::station::write;
 use reference::verify::entry_in_range;
-use reference::{Input, Station};
+use reference::{Input, Model, Station};
 
 use crate::pair::Finding;
 use crate::random::Random;
@@ -19,7 +19,7 @@ fn station(random: &mut Random) -> Station {
         1 => 1 + random.below(1024),
         _ => 1 + random.below(40),
     };
-    let mut case = passing(random, words as usize);
+    let mut case = passing(random, Model::Upd17132, words as usize);
     match random.below(4) {
         0 => {
             let mut damaged = case.clone();

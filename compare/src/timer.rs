@@ -19,10 +19,11 @@ use crate::words;
 
 /// One step, and a run of one.
 pub fn step(random: &mut Random, index: u64, tally: &mut Tally) -> Result<(), Finding> {
-    let words = steps::length(random);
-    let mut before = records::machine(random, words);
+    let model = records::model(random);
+    let words = steps::length(random, model);
+    let mut before = records::machine(random, model, words);
     before.standby = random.pick(&[0, 0, 0, 0, 0, 1, 1, 2]);
-    let mut board = records::board(random);
+    let mut board = records::board(random, model);
     let in_range = !random.once_in(16);
     if !in_range {
         spoil(random, &mut before, &mut board, tally);

@@ -27,13 +27,15 @@ pub const ALL: &[&str] = &[
     "runs of some pulses of a period",
     "runs of two matches",
     "runs refused with 30",
+    "runs refused with 31",
 ];
 
 /// One run. At times its ROM is a loop that takes the whole budget.
 pub fn run(random: &mut Random, index: u64, tally: &mut Tally) -> Result<(), Finding> {
     let long = index.is_multiple_of(1_024);
     let rom = if long { polling(random) } else { short(random) };
-    let mut before = records::machine(random, rom.len());
+    let model = records::model(random);
+    let mut before = records::machine(random, model, rom.len());
     before.standby = if long { 0 } else { random.pick(&[0, 0, 0, 1, 1, 2]) };
     if long {
         (before.pc, before.skip) = (0, 0);
@@ -45,7 +47,7 @@ pub fn run(random: &mut Random, index: u64, tally: &mut Tally) -> Result<(), Fin
         17..=32 => 1,
         _ => random.below(60) as u32,
     };
-    let board = records::board(random);
+    let board = records::board(random, model);
     let run = Run { rom: &rom, before: &before, board: &board, budget };
     let (mut pulses, mut matches) = (0, 0);
     let (told, after) = run.by_steps(|before, _, _, after| {
@@ -110,5 +112,6 @@ fn see(run: Run, told: RunReply, after: &Machine, tally: &mut Tally) {
         (goes_on && after.standby == 1, "runs that end in HALT"),
         (goes_on && after.standby == 2, "runs that end in STOP"),
         (goes_on && told.number == 30, "runs refused with 30"),
+        (goes_on && told.number == 31, "runs refused with 31"),
     ]);
 }

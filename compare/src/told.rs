@@ -1,13 +1,13 @@
-//! What a step answers and leaves by document 02, E4, without either emulator:
-//! PEEK, POKE, GET and PUT whole, and of any other word the registers and the
-//! timer.
+//! What a step answers and leaves by document 02, E1 and E4, without either
+//! emulator: PEEK, POKE, GET and PUT whole, and of any other word the registers,
+//! the timer and refusal 31.
 
 use reference::Machine;
 
 use crate::board::Board;
 use crate::clock;
 use crate::pair::{self, Finding};
-use crate::places::free_bits;
+use crate::places::{free_bits, lacks};
 use crate::ports;
 use crate::transfers::{self, Kind};
 
@@ -29,6 +29,7 @@ impl Step<'_> {
     /// Both answered and left what is told. `in_range` tells whether all that
     /// the step was given is.
     pub fn is_as_told(&self, in_range: bool) -> Result<(), Finding> {
+        self.is_missing_as_told(in_range)?;
         let Step { before, board, number, after, .. } = *self;
         let right = match self.word() {
             _ if !in_range => number == 1 && after == before,
@@ -57,12 +58,15 @@ impl Step<'_> {
         if transfers::missing(kind, address) {
             return number == 30 && after == before;
         }
+        if matches!(kind, Kind::Peek | Kind::Poke) && lacks(board.model, address) {
+            return number == 31 && after == before;
+        }
         let mut told = before.clone();
         match kind {
             Kind::Peek => told.cells[0x78] = peeked(before, board, address),
             Kind::Poke if address >= 0x40 => {
                 let place = usize::from(address);
-                told.cells[place] = before.cells[0x78] & free_bits(place) as u8;
+                told.cells[place] = before.cells[0x78] & free_bits(board.model, place) as u8;
             }
             Kind::Get => {
                 let counter = before.peripherals.counter;

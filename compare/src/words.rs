@@ -50,6 +50,16 @@ pub fn plain(random: &mut Random) -> u16 {
     }
 }
 
+/// The words that have operands, each in turn, with none set: the opcodes with m,
+/// RORC, PEEK and POKE.
+pub fn nth_with_operands(index: u64) -> u16 {
+    const OF_GROUP: [u16; 3] = [RORC, 0x3830, 0x3820];
+    let opcodes = SKIPS.iter().chain(&DATA).map(|opcode| opcode << 11);
+    let all = opcodes.chain(OF_GROUP);
+    let count = (SKIPS.len() + DATA.len() + OF_GROUP.len()) as u64;
+    all.cycle().nth((index % count) as usize).unwrap_or(NOP)
+}
+
 /// HALT or STOP.
 pub fn halt(random: &mut Random) -> u16 {
     random.pick(&[HALT, STOP]) | random.word(16)
@@ -70,6 +80,11 @@ pub const fn call(address: u16) -> u16 {
     CALL << 11 | address
 }
 
+/// Is this word BR addr?
+pub fn is_br(word: u16) -> bool {
+    word >> 11 == BR
+}
+
 /// Is this word CALL addr?
 pub fn is_call(word: u16) -> bool {
     word >> 11 == CALL
@@ -85,6 +100,11 @@ pub fn jumps(word: u16) -> bool {
     matches!(word >> 11, BR | CALL) || is_return(word) || matches!(word, BR_AR | CALL_AR)
 }
 
+/// m as a word has it.
+pub fn m_field(word: u16) -> u8 {
+    (word >> 4 & 0x7F) as u8
+}
+
 /// Has this word an operand m?
 pub fn has_data(word: u16) -> bool {
     matches!(word >> 11, 0x00..=0x06 | 0x08..=0x0B | 0x10..=0x16 | 0x18..=0x1B | 0x1D..=0x1F)
@@ -93,6 +113,11 @@ pub fn has_data(word: u16) -> bool {
 /// Has this word operands m and r?
 pub fn has_r(word: u16) -> bool {
     matches!(word >> 11, 0x00..=0x06 | 0x08 | 0x0A | 0x18 | 0x1A)
+}
+
+/// Is this word RORC r?
+pub fn is_rorc(word: u16) -> bool {
+    word & 0xFFF0 == RORC
 }
 
 /// Is this word MOV @r,m or MOV m,@r?

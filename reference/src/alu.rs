@@ -3,6 +3,7 @@
 
 use crate::fault::{self, fault};
 use crate::machine::{Input, Machine};
+use crate::model::Model;
 
 /// What an operation works on.
 #[derive(Clone, Copy)]
@@ -81,15 +82,19 @@ impl Machine {
 
     /// RORC: CY to bit 3, bit 0 to CY, Z stays. On 7FH the rotated nibble is
     /// stored and CY gets nothing more (house).
-    pub(crate) fn rotate(&mut self, input: &Input, r: u8) {
-        let target = self.register_address(r);
-        let value = self.register(input, r);
+    pub(crate) fn rotate(&mut self, model: Model, input: &Input, r: u8) -> Result<(), u8> {
+        let target = match self.register_cell(model, r) {
+            Err(_) if fault(fault::RORC_NOT_TESTED) => self.register_address(r),
+            cell => cell?,
+        };
+        let value = self.load_register(input, target);
         self.store(target, self.carry() << 3 | value >> 1);
         if target == Self::PSW && !fault(fault::RORC_PSW_CARRY) {
-            return;
+            return Ok(());
         }
         let flags = self.cell(Self::PSW) & !Self::CY;
         self.store(Self::PSW, flags | (value & 1) << 2);
+        Ok(())
     }
 }
 

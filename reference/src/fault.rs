@@ -204,6 +204,70 @@ pub const PULSE_OF_TWO: u32 = 82;
 pub const CHECK_BANS_FOUR: u32 = 83;
 /// The check passes PEEK, POKE, GET and PUT whatever they name.
 pub const CHECK_WITHOUT_30: u32 = 84;
+/// r is not tested where it gives only the column of @r.
+pub const POINTER_NOT_TESTED: u32 = 85;
+/// Where MPE is set, the test takes @r in m's row.
+pub const TESTED_IN_ROW_OF_M: u32 = 86;
+/// The test takes m before the OR with IX.
+pub const TESTED_BEFORE_IX: u32 = 87;
+/// With CMP 1 the target of a result is not tested.
+pub const COMPARE_NOT_TESTED: u32 = 88;
+/// SKT and SKF with n = 0 do not test m.
+pub const EMPTY_TEST_NOT_TESTED: u32 = 89;
+/// RORC does not test r.
+pub const RORC_NOT_TESTED: u32 = 90;
+/// What MOV m,#n4, MOV m,@r and ST write to a missing cell is lost, as source
+/// 000, 5.1.6, has it.
+pub const WRITE_LOST: u32 = 91;
+/// PEEK of a missing cell reads 0.
+pub const PEEK_READS_0: u32 = 92;
+/// What POKE writes to a missing cell is lost.
+pub const POKE_LOST: u32 = 93;
+/// PEEK and POKE of a missing cell are refused with 30.
+pub const FILE_CELL_MEETS_30: u32 = 94;
+/// The 17120 lacks 6FH too.
+pub const P0E_MISSING: u32 = 95;
+/// The 17132 refuses 40H to 6EH too.
+pub const MISSING_ON_17132: u32 = 96;
+/// A SKT or SKF that is refused with 31 has cleared CMP.
+pub const REFUSED_TEST_CLEARS_CMP: u32 = 97;
+/// A step that is refused with 31 has moved PC.
+pub const REFUSED_31_MOVES_PC: u32 = 98;
+/// A run that is refused with 31 leaves the record as it came, and reports
+/// nothing.
+pub const RUN_UNDONE_BY_31: u32 = 99;
+/// A skipped word meets refusal 31.
+pub const SKIPPED_MEETS_31: u32 = 100;
+/// A step that stays in standby meets refusal 31.
+pub const STANDING_MEETS_31: u32 = 101;
+/// Refusal 31 comes before that of a pulse out of range.
+pub const MISSING_BEFORE_RANGE: u32 = 102;
+/// A missing cell that is not 0 is in range.
+pub const MISSING_NOT_0: u32 = 103;
+/// A missing cell that is not 0 is refused with 31.
+pub const MISSING_NOT_0_MEETS_31: u32 = 104;
+/// A ROM of 769 words is in range for a step and a run on the 17120.
+pub const ROM_OF_769: u32 = 105;
+/// A PC past the model's last word is out of range.
+pub const PC_OF_ROM: u32 = 106;
+/// A stacked address past the model's last word is out of range.
+pub const STACK_OF_ROM: u32 = 107;
+/// Past the model's last word the ROM reads FFFFH, as source 000, 3.3, has it.
+pub const READS_PAST_ROM: u32 = 108;
+/// Refusal 5 starts behind the model's last word.
+pub const ADDRESS_OF_ROM: u32 = 109;
+/// PC goes on at 0 after the model's last word.
+pub const WRAP_AT_768: u32 = 110;
+/// In the check next is 0 after the model's last word.
+pub const CHECK_WRAPS_AT_768: u32 = 111;
+/// The check takes a ROM of up to 1,024 words for the 17120.
+pub const CHECK_OF_17132: u32 = 112;
+/// The check lets MOVT stand in the model's longest ROM.
+pub const CHECK_MOVT_OF_ROM: u32 = 113;
+/// A PEEK or POKE of a missing cell breaks rule 3.
+pub const CHECK_BANS_MISSING: u32 = 114;
+/// A model's number is taken by its lowest bit.
+pub const MODEL_BY_LOW_BIT: u32 = 115;
 
 /// The number of the last fault.
-pub const LAST: u32 = CHECK_WITHOUT_30;
+pub const LAST: u32 = MODEL_BY_LOW_BIT;

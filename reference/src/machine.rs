@@ -1,7 +1,8 @@
 //! The machine's state and its inputs (document 01, "The machine's record";
-//! document 02, E4).
+//! document 02, E1 and E4).
 
 use crate::fault::{self, fault};
+use crate::model::{Model, WRITABLE};
 use crate::peripherals::Peripherals;
 
 /// The machine's state. Document 01 calls it the record.
@@ -77,8 +78,9 @@ impl Machine {
     pub const HALT: u8 = 1;
     pub const STOP: u8 = 2;
 
-    /// All zeros and no mark; registers and timer as source 000 says.
-    pub fn reset() -> Machine {
+    /// All zeros and no mark; registers and timer as source 000 says, which has
+    /// the same for every model.
+    pub fn reset(_: Model) -> Machine {
         let peripherals = Peripherals::reset();
         Machine {
             cells: [0; 128],
@@ -91,25 +93,32 @@ impl Machine {
         }
     }
 
-    /// Is the state in range? If not, refusal 1.
-    pub fn in_range(&self) -> bool {
-        // An OR over all cells, with no early end, is the quick way.
-        let stray = (self.cells.iter().zip(WRITABLE.iter())).fold(0, |s, (c, w)| s | (c & !w));
-        stray == 0
-            && self.pc <= LAST_ADDRESS + u16::from(fault(fault::PC_PAST_LAST))
+    /// Is the state in range for a model? If not, refusal 1.
+    pub fn in_range(&self, model: Model) -> bool {
+        self.cells_in_range(model)
+            && self.pc <= last_pc(model) + u16::from(fault(fault::PC_PAST_LAST))
             && self.levels <= 5 + u8::from(fault(fault::SIX_LEVELS))
-            && self.stack_in_range()
+            && self.stack_in_range(model)
             && self.skip <= 1 + u8::from(fault(fault::SKIP_OF_TWO))
             && self.standby <= Self::STOP + u8::from(fault(fault::STANDBY_OF_THREE))
             && self.peripherals.in_range()
     }
 
+    /// No cell has a bit that is fixed at 0, and one that is missing has none.
+    #[inline(always)]
+    fn cells_in_range(&self, model: Model) -> bool {
+        let loose = fault(fault::MISSING_NOT_0) || fault(fault::MISSING_NOT_0_MEETS_31);
+        let writable = if loose { &WRITABLE } else { model.writable() };
+        // An OR over all cells, with no early end, is the quick way.
+        (self.cells.iter().zip(writable)).fold(0, |stray, (c, w)| stray | (c & !w)) == 0
+    }
+
     /// Open places hold addresses, closed places hold 0.
-    fn stack_in_range(&self) -> bool {
+    fn stack_in_range(&self, model: Model) -> bool {
         let open = usize::from(self.levels);
         self.stack.iter().enumerate().all(|(place, &address)| {
             if place < open {
-                address <= LAST_ADDRESS
+                address <= last_stacked(model)
             } else {
                 address == 0 || fault(fault::CLOSED_NOT_TESTED)
             }
@@ -126,26 +135,29 @@ impl Input {
     }
 }
 
-/// The highest ROM address; PC and AR count to it and go on at 0.
+/// The highest ROM address; PC and AR count to it and go on at 0. They have ten
+/// bits in every model.
 pub const LAST_ADDRESS: u16 = 0x3FF;
 
-/// The most words a ROM can have.
-pub const ROM_WORDS: usize = 1024;
-
-/// A ROM of 1 to 1,024 words. If not, refusal 1.
-pub fn rom_in_range(rom: &[u16]) -> bool {
-    (1..=ROM_WORDS).contains(&rom.len())
+/// The highest PC in range: not the ROM's last word.
+#[inline(always)]
+fn last_pc(model: Model) -> u16 {
+    if fault(fault::PC_OF_ROM) {
+        return model.rom_words() as u16 - 1;
+    }
+    LAST_ADDRESS
 }
 
-/// The bits of each cell that can be 1; the others are fixed at 0.
-pub const WRITABLE: [u8; 128] = {
-    let mut bits = [0xF; 128];
-    bits[Machine::P0E as usize] = 0x3;
-    bits[Machine::AR3 as usize] = 0;
-    bits[Machine::AR2 as usize] = 0x3;
-    bits[Machine::BANK as usize] = 0;
-    bits[Machine::IXH as usize] = 0x8;
-    bits[Machine::IXM as usize] = 0x7;
-    bits[Machine::RPH as usize] = 0;
-    bits
-};
+/// The highest stacked address in range: not the ROM's last word either.
+#[inline(always)]
+fn last_stacked(model: Model) -> u16 {
+    if fault(fault::STACK_OF_ROM) {
+        return model.rom_words() as u16 - 1;
+    }
+    LAST_ADDRESS
+}
+
+/// A ROM of 1 to 1,024 or 768 words. If not, refusal 1.
+pub fn rom_in_range(model: Model, rom: &[u16]) -> bool {
+    (1..=model.rom_words()).contains(&rom.len())
+}

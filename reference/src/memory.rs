@@ -3,7 +3,8 @@
 //! 12.6).
 
 use crate::fault::{self, fault};
-use crate::machine::{Input, Machine, LAST_ADDRESS, WRITABLE};
+use crate::machine::{Input, Machine, LAST_ADDRESS};
+use crate::model::{Model, WRITABLE};
 
 impl Machine {
     /// A cell as it is stored.
@@ -41,7 +42,8 @@ impl Machine {
         }
     }
 
-    /// Writes a cell; its fixed bits stay 0.
+    /// Writes a cell; its fixed bits stay 0. They are the same in every model: a
+    /// missing cell meets refusal 31 before its write.
     #[inline(always)]
     pub(crate) fn store(&mut self, address: u8, value: u8) {
         let at = place(address);
@@ -82,8 +84,7 @@ impl Machine {
     /// @r: the column is the content of r; the row is m's (ORed with IX's
     /// where IXE is set), but 7BH's low three bits wherever MPE is set.
     #[inline(always)]
-    pub(crate) fn indirect_address(&self, input: &Input, m: u8, r: u8) -> u8 {
-        let mut column = self.register(input, r);
+    fn indirect_address(&self, m: u8, mut column: u8) -> u8 {
         if fault(fault::IX_IN_COLUMN) && self.indexed() {
             column |= self.cell(Self::IXL);
         }
@@ -93,16 +94,56 @@ impl Machine {
         row << 4 | column
     }
 
-    /// The content of m.
+    /// The cell of m, or refusal 31.
     #[inline(always)]
-    pub(crate) fn data(&self, input: &Input, m: u8) -> u8 {
-        self.load(input, self.data_address(m))
+    pub(crate) fn data_cell(&self, model: Model, m: u8) -> Result<u8, u8> {
+        let address = self.data_address(m);
+        installed(model, if fault(fault::TESTED_BEFORE_IX) { m } else { address })?;
+        Ok(address)
     }
 
-    /// The content of r.
+    /// The cell of r, or refusal 31.
     #[inline(always)]
-    pub(crate) fn register(&self, input: &Input, r: u8) -> u8 {
-        let address = self.register_address(r);
+    pub(crate) fn register_cell(&self, model: Model, r: u8) -> Result<u8, u8> {
+        installed(model, self.register_address(r))
+    }
+
+    /// The cell of @r, or refusal 31 where it is missing or r is, which is read
+    /// for the column.
+    #[inline(always)]
+    pub(crate) fn indirect_cell(
+        &self,
+        model: Model,
+        input: &Input,
+        m: u8,
+        r: u8,
+    ) -> Result<u8, u8> {
+        let pointer = self.register_address(r);
+        if !fault(fault::POINTER_NOT_TESTED) {
+            installed(model, pointer)?;
+        }
+        let column = self.load_register(input, pointer);
+        let address = self.indirect_address(m, column);
+        let row_of_m = self.data_address(m) & 0x70 | column;
+        installed(model, if fault(fault::TESTED_IN_ROW_OF_M) { row_of_m } else { address })?;
+        Ok(address)
+    }
+
+    /// The content of m, or refusal 31.
+    #[inline(always)]
+    pub(crate) fn data(&self, model: Model, input: &Input, m: u8) -> Result<u8, u8> {
+        Ok(self.load(input, self.data_cell(model, m)?))
+    }
+
+    /// The content of r, or refusal 31.
+    #[inline(always)]
+    pub(crate) fn register(&self, model: Model, input: &Input, r: u8) -> Result<u8, u8> {
+        Ok(self.load_register(input, self.register_cell(model, r)?))
+    }
+
+    /// The content of r's cell.
+    #[inline(always)]
+    pub(crate) fn load_register(&self, input: &Input, address: u8) -> u8 {
         if fault(fault::R_PAST_PORT) {
             return self.cell(address);
         }
@@ -171,6 +212,15 @@ impl Machine {
         self.levels = top;
         Ok(address)
     }
+}
+
+/// A cell that the model has, or refusal 31.
+#[inline(always)]
+pub(crate) fn installed(model: Model, address: u8) -> Result<u8, u8> {
+    if model.lacks(address) {
+        return Err(31);
+    }
+    Ok(address)
 }
 
 /// An address as an index. An address has seven bits; the mask says so to the

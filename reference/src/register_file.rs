@@ -1,8 +1,11 @@
-//! PEEK, POKE, GET and PUT (document 02, E4; source 000, 9.2, 10.2 and 18.5.7).
+//! PEEK, POKE, GET and PUT (document 02, E1 and E4; source 000, 9.2, 10.2 and
+//! 18.5.7).
 
 use crate::fault::{self, fault};
 use crate::isa::Instruction;
 use crate::machine::{Input, Machine};
+use crate::memory::installed;
+use crate::model::Model;
 use crate::peripherals::{place, Peripherals};
 
 /// What stands at an address of the register file.
@@ -24,6 +27,12 @@ fn item(rf: u8) -> Result<Item, u8> {
         Some(at) => Ok(Item::Register(at)),
         None => Err(30),
     }
+}
+
+/// A cell that PEEK or POKE names: where it is missing, 31 and not 30.
+#[inline(always)]
+fn file_cell(model: Model, address: u8) -> Result<u8, u8> {
+    installed(model, address).map_err(|r| if fault(fault::FILE_CELL_MEETS_30) { 30 } else { r })
 }
 
 /// The peripheral that GET reads, the counter, and the one that PUT writes, the
@@ -55,23 +64,31 @@ pub(crate) fn missing(instruction: Instruction) -> bool {
 
 impl Machine {
     /// PEEK WR,rf
-    pub(crate) fn peek(&mut self, input: &Input, rf: u8) -> Result<(), u8> {
+    pub(crate) fn peek(&mut self, model: Model, input: &Input, rf: u8) -> Result<(), u8> {
         let value = match item(self.file_address(rf))? {
             Item::Register(at) => self.peripherals.registers[at],
-            Item::Cell(address) if fault(fault::PEEK_PAST_PORT) => self.cell(address),
-            Item::Cell(address) => self.load(input, address),
+            Item::Cell(address) if fault(fault::PEEK_READS_0) && model.lacks(address) => 0,
+            Item::Cell(address) => {
+                let address = file_cell(model, address)?;
+                if fault(fault::PEEK_PAST_PORT) {
+                    self.cell(address)
+                } else {
+                    self.load(input, address)
+                }
+            }
         };
         self.store(Self::WR, value);
         Ok(())
     }
 
     /// POKE rf,WR. Fixed bits stay 0.
-    pub(crate) fn poke(&mut self, rf: u8) -> Result<(), u8> {
+    pub(crate) fn poke(&mut self, model: Model, rf: u8) -> Result<(), u8> {
         let value = self.cell(Self::WR);
         match item(self.file_address(rf))? {
             Item::Register(place::TIMER_MODE) => self.peripherals.set_mode(value),
             Item::Register(at) => self.peripherals.registers[at] = value & Peripherals::KEPT[at],
-            Item::Cell(address) => self.store(address, value),
+            Item::Cell(address) if fault(fault::POKE_LOST) && model.lacks(address) => {}
+            Item::Cell(address) => self.store(file_cell(model, address)?, value),
         }
         Ok(())
     }

@@ -1,8 +1,9 @@
 //! The station file, read and written (document 01, "Station file" and the
-//! file refusals 20 to 25).
+//! file refusals 20 to 25). It stays one of the 17132 (document 02, E1).
 
 use crate::fault::{self, fault};
-use crate::machine::{Input, ROM_WORDS};
+use crate::machine::Input;
+use crate::model::Model;
 use crate::verify::entry_in_range;
 
 /// The content of a station file.
@@ -22,6 +23,8 @@ pub struct Counts {
     pub inputs: usize,
 }
 
+/// The model of every file.
+pub(crate) const MODEL: Model = Model::Upd17132;
 /// The form number that every file begins with.
 const FORM: u16 = 1;
 /// The most input records a file can have.
@@ -122,7 +125,7 @@ fn scan(file: &[u8]) -> Result<Counts, u8> {
 }
 
 fn word_count_allowed(words: usize) -> bool {
-    (1..=ROM_WORDS).contains(&words)
+    (1..=MODEL.rom_words()).contains(&words)
 }
 
 fn depth_count_allowed(depths: usize, words: usize) -> bool {

@@ -5,7 +5,7 @@
 use crate::count::Count;
 use crate::fault::{self, fault};
 use crate::machine::Machine;
-use crate::station::{read, Station};
+use crate::station::{read, Station, MODEL};
 use crate::step::{counted_step, Answer};
 use crate::verify::{verify, Verdict};
 
@@ -37,7 +37,7 @@ impl Text {
         if station.depths.is_empty() {
             return self.0.push_str("SHEET NONE\n");
         }
-        match verify(&station.rom, &station.depths) {
+        match verify(MODEL, &station.rom, &station.depths) {
             Verdict::Pass => self.0.push_str("SHEET PASS\n"),
             Verdict::Fail { word, rule } => {
                 self.0.push_str("SHEET FAIL ");
@@ -52,12 +52,13 @@ impl Text {
 
     /// From reset, a line per input record up to a refusal, then the end line.
     fn steps(&mut self, station: &Station) {
-        let mut machine = Machine::reset();
+        let mut machine = Machine::reset(MODEL);
         let (mut count, mut refusal) = (Count::default(), 0);
         for (record, input) in (1..).zip(&station.inputs) {
             let before = machine.pc;
-            let word = match counted_step(&station.rom, &mut machine, input, PULSE, &mut count) {
-                Answer::Done => Some(station.rom[usize::from(before)]),
+            let rom = &station.rom;
+            let word = match counted_step(MODEL, rom, &mut machine, input, PULSE, &mut count) {
+                Answer::Done => Some(rom[usize::from(before)]),
                 Answer::Standby => None,
                 Answer::Refused(number) => {
                     refusal = number;

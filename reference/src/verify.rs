@@ -1,8 +1,10 @@
-//! The check of a ROM with its level sheet (document 01, "Clearance rules").
+//! The check of a ROM with its level sheet (document 01, "Clearance rules"), for
+//! one model (document 02, E1).
 
 use crate::fault::{self, fault};
 use crate::isa::{decode, unsupported, Instruction, RETSK};
-use crate::machine::{rom_in_range, LAST_ADDRESS, ROM_WORDS};
+use crate::machine::{rom_in_range, LAST_ADDRESS};
+use crate::model::Model;
 use crate::register_file::missing;
 
 /// What the check answers.
@@ -33,14 +35,18 @@ fn reached(depth: u8) -> bool {
 
 /// Checks a ROM with `depths`, document 01's level sheet: for each word the
 /// number of open calls there, or 15 for never reached.
-pub fn verify(rom: &[u16], depths: &[u8]) -> Verdict {
-    if !rom_in_range(rom) {
+///
+/// The model decides how long the ROM can be, and nothing else: an operand that
+/// it lacks breaks no rule.
+pub fn verify(model: Model, rom: &[u16], depths: &[u8]) -> Verdict {
+    let lengths_of = if fault(fault::CHECK_OF_17132) { Model::Upd17132 } else { model };
+    if !rom_in_range(lengths_of, rom) {
         return Verdict::Refused(1);
     }
     if depths.len() != rom.len() {
         return Verdict::Refused(9);
     }
-    let sheet = Sheet { rom, depths, skipped_returns: skipped_returns(rom, depths) };
+    let sheet = Sheet { model, rom, depths, skipped_returns: skipped_returns(rom, depths) };
     for word in 0..rom.len() as u16 {
         if let Some(rule) = sheet.broken_rule(word) {
             return Verdict::Fail { word, rule };
@@ -51,6 +57,7 @@ pub fn verify(rom: &[u16], depths: &[u8]) -> Verdict {
 
 /// The ROM and its sheet under check.
 struct Sheet<'a> {
+    model: Model,
     rom: &'a [u16],
     depths: &'a [u8],
     /// Bit d is set where some reached RETSK has level d.
@@ -65,10 +72,8 @@ fn skipped_returns(rom: &[u16], depths: &[u8]) -> u8 {
         .fold(0, |levels, (_, depth)| levels | 1 << depth)
 }
 
-/// "Next": PC + 1, 0 after 1,023.
-fn next(word: u16) -> u16 {
-    (word + 1) & LAST_ADDRESS
-}
+/// The words of a ROM in which MOVT finds one at every AR.
+const TABLE_WORDS: usize = LAST_ADDRESS as usize + 1;
 
 impl Sheet<'_> {
     /// The lowest rule that this word breaks. Rule 1 is tried at word 0 and
@@ -108,9 +113,14 @@ impl Sheet<'_> {
         use Instruction::*;
         match instruction {
             BrAr | CallAr | PushAr | PopAr => false,
-            Movt => self.rom.len() == ROM_WORDS && depth <= 4,
+            Movt => self.rom.len() == self.table_words() && depth <= 4,
             Peek { .. } | Poke { .. } | Get { .. } | Put { .. }
                 if fault(fault::CHECK_BANS_FOUR) =>
+            {
+                false
+            }
+            Peek { rf } | Poke { rf }
+                if fault(fault::CHECK_BANS_MISSING) && self.model.lacks(rf) =>
             {
                 false
             }
@@ -125,9 +135,9 @@ impl Sheet<'_> {
             Br { addr } => self.has(addr, depth),
             Ret | Retsk => true,
             Ske { .. } | Skne { .. } | Skge { .. } | Sklt { .. } | Skt { .. } | Skf { .. } => {
-                self.has(next(word), depth) && self.has(next(next(word)), depth)
+                self.has(self.next(word), depth) && self.has(self.after_next(word), depth)
             }
-            _ => self.has(next(word), depth),
+            _ => self.has(self.next(word), depth),
         }
     }
 
@@ -139,7 +149,28 @@ impl Sheet<'_> {
         };
         let called = depth + 1;
         let skips = self.skipped_returns >> called & 1 == 1 && !fault(fault::CHECK_NO_RETSK_CLAUSE);
-        depth <= 4 && self.has(addr, called) && (!skips || self.has(next(next(word)), depth))
+        depth <= 4 && self.has(addr, called) && (!skips || self.has(self.after_next(word), depth))
+    }
+
+    /// Rule 3 lets MOVT stand in a ROM of 1,024 words, which the 17120 never has.
+    fn table_words(&self) -> usize {
+        if fault(fault::CHECK_MOVT_OF_ROM) {
+            return self.model.rom_words();
+        }
+        TABLE_WORDS
+    }
+
+    /// "Next": PC + 1, 0 after 1,023, in every model.
+    fn next(&self, word: u16) -> u16 {
+        let next = word + 1;
+        if fault(fault::CHECK_WRAPS_AT_768) && usize::from(next) == self.model.rom_words() {
+            return 0;
+        }
+        next & LAST_ADDRESS
+    }
+
+    fn after_next(&self, word: u16) -> u16 {
+        self.next(self.next(word))
     }
 
     /// Does the named word lie in the ROM and have this level?

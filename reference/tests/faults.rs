@@ -5,10 +5,25 @@
 
 use reference::fault::*;
 use reference::Instruction::{self, *};
-use reference::{decode, encode, run, station, step, transcript, verify};
-use reference::{Input, Machine, Peripherals, Station};
+use reference::{decode, encode, station, transcript};
+use reference::{Answer, Input, Machine, Model, Peripherals, Report, Station, Verdict};
 
 const PSW: u8 = Machine::PSW;
+
+/// The model of every case that names none.
+const MODEL: Model = Model::Upd17132;
+
+fn step(rom: &[u16], machine: &mut Machine, input: &Input, pulse: u8) -> Answer {
+    reference::step(MODEL, rom, machine, input, pulse)
+}
+
+fn run(rom: &[u16], machine: &mut Machine, input: &Input, pulse: u8, budget: u32) -> Report {
+    reference::run(MODEL, rom, machine, input, pulse, budget)
+}
+
+fn verify(rom: &[u16], depths: &[u8]) -> Verdict {
+    reference::verify(MODEL, rom, depths)
+}
 
 fn word(i: Instruction) -> u16 {
     encode(i).expect("operands fit")
@@ -20,7 +35,7 @@ fn rom(program: &[Instruction]) -> Vec<u16> {
 
 /// What one step makes of a machine with these cells and this input.
 fn one(input: Input, cells: &[(u8, u8)], i: Instruction) -> String {
-    let mut machine = Machine::reset();
+    let mut machine = Machine::reset(MODEL);
     for &(address, value) in cells {
         machine.cells[usize::from(address)] = value;
     }
@@ -34,7 +49,7 @@ fn quiet(cells: &[(u8, u8)], i: Instruction) -> String {
 
 /// What one step makes of a machine that `change` sets up.
 fn changed(change: fn(&mut Machine), release: u8, words: &[u16]) -> String {
-    let mut machine = Machine::reset();
+    let mut machine = Machine::reset(MODEL);
     change(&mut machine);
     let input = Input { release, ..Input::default() };
     let answer = step(words, &mut machine, &input, 0);
@@ -43,7 +58,7 @@ fn changed(change: fn(&mut Machine), release: u8, words: &[u16]) -> String {
 
 /// What one step makes of a machine with these cells and these peripherals.
 fn timed(pulse: u8, cells: &[(u8, u8)], peripherals: Peripherals, i: Instruction) -> String {
-    let mut machine = Machine { peripherals, ..Machine::reset() };
+    let mut machine = Machine { peripherals, ..Machine::reset(MODEL) };
     for &(address, value) in cells {
         machine.cells[usize::from(address)] = value;
     }
@@ -58,7 +73,7 @@ fn timer(mode: u8, modulo: u8, counter: u8, divider: u8) -> Peripherals {
 
 /// What one step makes of all pins high, all latches low and this register set.
 fn port(place: usize, value: u8, i: Instruction) -> String {
-    let mut machine = Machine::reset();
+    let mut machine = Machine::reset(MODEL);
     machine.peripherals.registers[place] = value;
     let answer = step(&[word(i)], &mut machine, &Input { pins: [15; 5], ..Input::default() }, 0);
     format!("{answer:?} {machine:?}")
@@ -66,14 +81,42 @@ fn port(place: usize, value: u8, i: Instruction) -> String {
 
 /// What a run makes of a machine in standby.
 fn stood(standby: u8, budget: u32) -> String {
-    let mut machine = Machine { standby, ..Machine::reset() };
+    let mut machine = Machine { standby, ..Machine::reset(MODEL) };
     let report = run(&[word(Nop)], &mut machine, &Input::default(), 0, budget);
     format!("{report:?} {machine:?}")
 }
 
+/// What one step makes of a 17120 that `change` sets up, and a run.
+fn small(change: fn(&mut Machine), pulse: u8, words: &[u16]) -> String {
+    let mut machine = Machine::reset(Model::Upd17120);
+    change(&mut machine);
+    let (mut other, input) = (machine.clone(), Input::default());
+    let answer = reference::step(Model::Upd17120, words, &mut machine, &input, pulse);
+    let report = reference::run(Model::Upd17120, words, &mut other, &input, pulse, 2);
+    format!("{answer:?} {machine:?} {report:?} {other:?}")
+}
+
+/// What the 17120 makes of one instruction with these cells.
+fn tiny(cells: &[(u8, u8)], i: Instruction) -> String {
+    let mut machine = Machine::reset(Model::Upd17120);
+    for &(address, value) in cells {
+        machine.cells[usize::from(address)] = value;
+    }
+    let answer = reference::step(Model::Upd17120, &[word(i)], &mut machine, &Input::default(), 0);
+    format!("{answer:?} {machine:?}")
+}
+
+/// The check of so many words for the 17120, all at level 0: NOPs with this last
+/// word.
+fn judged(words: usize, last: Instruction) -> String {
+    let mut rom = vec![word(Nop); words];
+    rom[words - 1] = word(last);
+    format!("{:?}", reference::verify(Model::Upd17120, &rom, &vec![0; words]))
+}
+
 /// What a run from reset reports.
 fn ran(program: &[Instruction], budget: u32) -> String {
-    format!("{:?}", run(&rom(program), &mut Machine::reset(), &Input::default(), 0, budget))
+    format!("{:?}", run(&rom(program), &mut Machine::reset(MODEL), &Input::default(), 0, budget))
 }
 
 fn full(machine: &mut Machine) {
@@ -97,7 +140,7 @@ fn witness(fault: u32) -> String {
         INC_IX_CLEARS_MPE => quiet(&[(0x7A, 8)], IncIx),
         MOVT_WITHOUT_LEVEL => changed(full, 0, &[word(Movt)]),
         STANDBY_COUNTED | STANDBY_CYCLE => {
-            let mut machine = Machine::reset();
+            let mut machine = Machine::reset(MODEL);
             machine.standby = 1;
             format!("{:?}", run(&[word(Nop)], &mut machine, &Input::default(), 0, 5))
         }
@@ -201,6 +244,45 @@ fn peripheral_witness(fault: u32) -> String {
         CHECK_WITHOUT_30 => {
             format!("{:?}", verify(&rom(&[Put { p: 2 }, Br { addr: 0 }]), &[0, 0]))
         }
+        _ => model_witness(fault),
+    }
+}
+
+/// A case for each fault in the models.
+fn model_witness(fault: u32) -> String {
+    let missing = MovMN { m: 0x40, n: 1 };
+    match fault {
+        POINTER_NOT_TESTED => tiny(&[(0x7E, 8)], MovTo { r: 1, m: 0x20 }),
+        TESTED_IN_ROW_OF_M => tiny(&[(0x7A, 8), (0x7B, 4)], MovTo { r: 1, m: 0x20 }),
+        TESTED_BEFORE_IX => tiny(&[(0x7B, 4), (PSW, 1)], SubMN { m: 0x20, n: 1 }),
+        COMPARE_NOT_TESTED => tiny(&[(PSW, 8)], SubMN { m: 0x40, n: 1 }),
+        EMPTY_TEST_NOT_TESTED => tiny(&[], Skt { m: 0x40, n: 0 }),
+        RORC_NOT_TESTED => tiny(&[(0x7E, 8)], Rorc { r: 1 }),
+        WRITE_LOST => tiny(&[], missing),
+        PEEK_READS_0 => tiny(&[], Peek { rf: 0x40 }),
+        POKE_LOST => tiny(&[], Poke { rf: 0x40 }),
+        FILE_CELL_MEETS_30 => tiny(&[], Peek { rf: 0x40 }),
+        P0E_MISSING => tiny(&[], MovMN { m: 0x6F, n: 1 }),
+        MISSING_ON_17132 => quiet(&[], missing),
+        REFUSED_TEST_CLEARS_CMP => tiny(&[(PSW, 8)], Skt { m: 0x40, n: 1 }),
+        REFUSED_31_MOVES_PC => tiny(&[], missing),
+        RUN_UNDONE_BY_31 => small(|_| (), 0, &rom(&[Nop, missing])),
+        SKIPPED_MEETS_31 => small(|m| m.skip = 1, 0, &[word(missing)]),
+        STANDING_MEETS_31 => small(|m| m.standby = 1, 0, &[word(missing)]),
+        MISSING_BEFORE_RANGE => small(|_| (), 2, &[word(missing)]),
+        MISSING_NOT_0 => small(|m| m.cells[0x40] = 1, 0, &[word(Nop)]),
+        MISSING_NOT_0_MEETS_31 => small(|m| m.cells[0x40] = 1, 0, &[word(Nop)]),
+        ROM_OF_769 => small(|_| (), 0, &[word(Nop); 769]),
+        PC_OF_ROM => small(|m| m.pc = 768, 0, &[word(Nop); 768]),
+        STACK_OF_ROM => small(|m| (m.levels, m.stack[0]) = (1, 768), 0, &[word(Nop)]),
+        READS_PAST_ROM => small(|m| m.pc = 768, 0, &[word(Nop); 768]),
+        ADDRESS_OF_ROM => tiny(&[], Br { addr: 768 }),
+        WRAP_AT_768 => small(|m| m.pc = 767, 0, &[word(Nop); 768]),
+        CHECK_WRAPS_AT_768 => judged(768, Nop),
+        CHECK_OF_17132 => judged(769, Br { addr: 0 }),
+        CHECK_MOVT_OF_ROM => judged(768, Movt),
+        CHECK_BANS_MISSING => judged(2, Peek { rf: 0x40 }),
+        MODEL_BY_LOW_BIT => format!("{:?}", Model::of_number(2)),
         _ => unreachable!("fault {fault}"),
     }
 }

@@ -1,5 +1,5 @@
 //! The proved emulator through its C entries (include/pollwezen.h). The only
-//! unsafe code of this package.
+//! unsafe code of this package. A model goes by its number, as in C.
 
 mod convert;
 mod layout;
@@ -14,8 +14,9 @@ pub use structs::{
 };
 
 extern "C" {
-    fn pollwezen_reset() -> LentMachine;
+    fn pollwezen_reset(model: u8, machine: *mut LentMachine) -> u8;
     fn pollwezen_step(
+        model: u8,
         rom: *const u16,
         words: usize,
         machine: *mut LentMachine,
@@ -23,6 +24,7 @@ extern "C" {
         pulse: u8,
     ) -> u8;
     fn pollwezen_run(
+        model: u8,
         rom: *const u16,
         words: usize,
         machine: *mut LentMachine,
@@ -31,6 +33,7 @@ extern "C" {
         budget: u32,
     ) -> RunReply;
     fn pollwezen_verify(
+        model: u8,
         rom: *const u16,
         words: usize,
         sheet: *const u8,
@@ -67,39 +70,56 @@ extern "C" {
 }
 
 /// The proved reset.
-pub fn reset() -> Machine {
-    // SAFETY: no argument.
-    Machine::from(&unsafe { pollwezen_reset() })
-}
-
-/// The proved step.
-pub fn step(rom: &[u16], lent: &mut Machine, input: &Input, pulse: u8) -> u8 {
+pub fn reset(model: u8, lent: &mut Machine) -> u8 {
     let mut held = LentMachine::from(&*lent);
-    let number = step_lent(rom, &mut held, input, pulse);
+    let number = reset_lent(model, &mut held);
     *lent = Machine::from(&held);
     number
 }
 
-/// The proved step on a record in C's layout, as a host keeps it.
-pub fn step_lent(rom: &[u16], lent: &mut LentMachine, input: &Input, pulse: u8) -> u8 {
+/// The proved reset of a record in C's layout, as a host keeps it.
+pub fn reset_lent(model: u8, lent: &mut LentMachine) -> u8 {
+    // SAFETY: `lent` is nobody else's.
+    unsafe { pollwezen_reset(model, lent) }
+}
+
+/// The proved step.
+pub fn step(model: u8, rom: &[u16], lent: &mut Machine, input: &Input, pulse: u8) -> u8 {
+    let mut held = LentMachine::from(&*lent);
+    let number = step_lent(model, rom, &mut held, input, pulse);
+    *lent = Machine::from(&held);
+    number
+}
+
+/// The proved step on a record in C's layout.
+pub fn step_lent(model: u8, rom: &[u16], lent: &mut LentMachine, input: &Input, pulse: u8) -> u8 {
+    let input = LentInput::from(input);
     // SAFETY: the slice gives its own length, and `lent` is nobody else's.
-    unsafe { pollwezen_step(rom.as_ptr(), rom.len(), lent, LentInput::from(input), pulse) }
+    unsafe { pollwezen_step(model, rom.as_ptr(), rom.len(), lent, input, pulse) }
 }
 
 /// The proved run.
-pub fn run(rom: &[u16], lent: &mut Machine, input: &Input, pulse: u8, budget: u32) -> RunReply {
+pub fn run(
+    model: u8,
+    rom: &[u16],
+    lent: &mut Machine,
+    input: &Input,
+    pulse: u8,
+    budget: u32,
+) -> RunReply {
     let mut held = LentMachine::from(&*lent);
-    let input = LentInput::from(input);
+    let (words, input) = (rom.len(), LentInput::from(input));
     // SAFETY: as in `step_lent`.
-    let report = unsafe { pollwezen_run(rom.as_ptr(), rom.len(), &mut held, input, pulse, budget) };
+    let report =
+        unsafe { pollwezen_run(model, rom.as_ptr(), words, &mut held, input, pulse, budget) };
     *lent = Machine::from(&held);
     report
 }
 
 /// The proved check.
-pub fn verify(rom: &[u16], depths: &[u8]) -> VerdictReply {
+pub fn verify(model: u8, rom: &[u16], depths: &[u8]) -> VerdictReply {
     // SAFETY: both slices give their own length.
-    unsafe { pollwezen_verify(rom.as_ptr(), rom.len(), depths.as_ptr(), depths.len()) }
+    unsafe { pollwezen_verify(model, rom.as_ptr(), rom.len(), depths.as_ptr(), depths.len()) }
 }
 
 /// The proved decoder.

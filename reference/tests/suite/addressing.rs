@@ -6,7 +6,7 @@ use reference::Machine;
 
 /// Every RAM cell and register row marked by a value from its address.
 fn patterned() -> Machine {
-    let mut machine = Machine::reset();
+    let mut machine = reset();
     for address in 0..0x6F_u8 {
         machine.cells[usize::from(address)] = (address ^ address >> 4) & 0xF;
     }
@@ -123,7 +123,7 @@ fn section_18_5_1_sum_of_a_row() {
         Br { addr: 2 },
         Nop,
     ]);
-    let mut m = Machine::reset();
+    let mut m = reset();
     let mut sum = 0;
     for column in 0..16 {
         m.cells[0x40 + column] = (column * 7 % 16) as u8;

@@ -3,7 +3,6 @@
 
 use crate::kit::*;
 use reference::Instruction::{self, *};
-use reference::Machine;
 
 /// Source 000, table 11-2: CY and result of decimal sums 0 to 31.
 #[rustfmt::skip]
@@ -182,7 +181,7 @@ fn section_11_7_rotations() {
 
 #[test]
 fn section_18_5_6_rotation_of_the_buffer() {
-    let mut m = Machine::reset();
+    let mut m = reset();
     m.cells[0x0C..0x10].copy_from_slice(&[0xF, 0xA, 5, 2]);
     let m = pass(m, &[Rorc { r: 0xC }, Rorc { r: 0xD }, Rorc { r: 0xE }, Rorc { r: 0xF }]);
     assert_eq!(m.cells[0x0C..0x10], [7, 0xD, 2, 9]);

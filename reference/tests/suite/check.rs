@@ -2,7 +2,7 @@
 
 use crate::kit::*;
 use reference::Instruction::{self, *};
-use reference::{encode, verify, Verdict};
+use reference::{encode, Verdict};
 
 const NEVER: u8 = 15;
 

@@ -3,7 +3,7 @@
 
 use crate::kit::*;
 use reference::Instruction::{self, *};
-use reference::{decode, run, Count, Input, Machine, Report};
+use reference::{decode, Count, Input, Machine, Report};
 
 fn report(steps: u32, cycles: u32, refusal: u8) -> Report {
     Report { count: Count { steps, cycles }, refusal }
@@ -11,12 +11,12 @@ fn report(steps: u32, cycles: u32, refusal: u8) -> Report {
 
 /// A run of a program from reset.
 fn ran(program: &[Instruction], budget: u32) -> Report {
-    run(&rom(program), &mut Machine::reset(), &quiet(), 0, budget)
+    run(&rom(program), &mut reset(), &quiet(), 0, budget)
 }
 
 /// A reset machine with so many open levels.
 fn open(levels: u8) -> Machine {
-    Machine { levels, ..Machine::reset() }
+    Machine { levels, ..reset() }
 }
 
 #[test]
@@ -41,7 +41,7 @@ fn movt_takes_two_and_every_other_word_one() {
 #[test]
 fn every_skipped_word_takes_one() {
     for word in 0..=u16::MAX {
-        let mut machine = Machine { skip: 1, ..Machine::reset() };
+        let mut machine = Machine { skip: 1, ..reset() };
         assert_eq!(run(&[word], &mut machine, &quiet(), 0, 1), report(1, 1, 0), "{word:04X}");
     }
 }
@@ -107,7 +107,7 @@ fn refused_runs() {
 fn standby() {
     let program = rom(&[Movt, Halt { cond: 0 }, Movt, Stop { cond: 0 }]);
     let released = Input { release: 1, ..quiet() };
-    let mut machine = Machine::reset();
+    let mut machine = reset();
     assert_eq!(run(&program, &mut machine, &quiet(), 0, 100), report(2, 3, 0));
     assert_eq!(run(&program, &mut machine, &quiet(), 0, 100), report(0, 0, 0));
     assert_eq!(run(&program, &mut machine, &released, 0, 0), report(0, 0, 0));
@@ -119,9 +119,9 @@ fn standby() {
 #[test]
 fn cut_in_two() {
     let program = rom(&[Movt, Skt { m: 0x10, n: 0 }, Movt, IncAr, Br { addr: 0 }]);
-    let whole = run(&program, &mut Machine::reset(), &quiet(), 0, 60).count;
+    let whole = run(&program, &mut reset(), &quiet(), 0, 60).count;
     for cut in 0..=60 {
-        let mut machine = Machine::reset();
+        let mut machine = reset();
         let first = run(&program, &mut machine, &quiet(), 0, cut).count;
         let rest = run(&program, &mut machine, &quiet(), 0, 60 - cut).count;
         let cycles = first.cycles + rest.cycles;

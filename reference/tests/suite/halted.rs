@@ -2,7 +2,7 @@
 
 use crate::kit::*;
 use reference::Instruction::*;
-use reference::{run, step, Answer, Count, Input, Machine, Peripherals, Report};
+use reference::{Answer, Count, Input, Machine, Peripherals, Report};
 
 fn report(steps: u32, refusal: u8) -> Report {
     Report { count: Count { steps, cycles: steps }, refusal }
@@ -12,14 +12,14 @@ fn report(steps: u32, refusal: u8) -> Report {
 fn standing(standby: u8, mode: u8, divider: u8) -> Machine {
     let registers = [mode, 0, 0, 0, 0, 0, 0];
     let peripherals = Peripherals { registers, modulo: 9, counter: 9, divider };
-    Machine { standby, peripherals, ..Machine::reset() }
+    Machine { standby, peripherals, ..reset() }
 }
 
 /// HALT at step 1; the counter becomes 1 at the 15th standing step.
 #[test]
 fn fifteen_steps() {
     let program = [0x3BF8];
-    let mut m = Machine::reset();
+    let mut m = reset();
     go(&program, &mut m, 1);
     assert_eq!((m.standby, m.peripherals.divider), (Machine::HALT, 1));
     for n in 1..=40_u8 {
@@ -108,7 +108,7 @@ fn every_standing_step_of_stop() {
 #[test]
 fn a_run_ends_with_halt() {
     let program = rom(&[Nop, Halt { cond: 0 }, Nop]);
-    let mut m = Machine::reset();
+    let mut m = reset();
     assert_eq!(run(&program, &mut m, &quiet(), 0, 100), report(2, 0));
     assert_eq!((m.standby, m.peripherals.divider), (Machine::HALT, 2));
     assert_eq!(run(&program, &mut m, &quiet(), 0, 100), report(0, 0));

@@ -1,7 +1,7 @@
-//! Small tools for the tests.
+//! Small tools for the tests. Those without a model are for the 17132.
 
 use reference::Instruction::{self, *};
-use reference::{encode, step, Answer, Input, Machine, Peripherals};
+use reference::{encode, Answer, Input, Machine, Model, Peripherals, Report, Verdict};
 
 /// Register addresses and flags, short.
 pub const AR3: u8 = Machine::AR3;
@@ -17,6 +17,29 @@ pub const CMP: u8 = Machine::CMP;
 pub const CY: u8 = Machine::CY;
 pub const Z: u8 = Machine::Z;
 pub const IXE: u8 = Machine::IXE;
+
+/// The model of every test that names none.
+const MODEL: Model = Model::Upd17132;
+
+pub fn reset() -> Machine {
+    Machine::reset(MODEL)
+}
+
+pub fn step(rom: &[u16], machine: &mut Machine, input: &Input, pulse: u8) -> Answer {
+    reference::step(MODEL, rom, machine, input, pulse)
+}
+
+pub fn run(rom: &[u16], machine: &mut Machine, input: &Input, pulse: u8, budget: u32) -> Report {
+    reference::run(MODEL, rom, machine, input, pulse, budget)
+}
+
+pub fn verify(rom: &[u16], depths: &[u8]) -> Verdict {
+    reference::verify(MODEL, rom, depths)
+}
+
+pub fn in_range(machine: &Machine) -> bool {
+    machine.in_range(MODEL)
+}
 
 /// The words of a program.
 pub fn rom(program: &[Instruction]) -> Vec<u16> {
@@ -45,7 +68,7 @@ pub fn pass(mut machine: Machine, program: &[Instruction]) -> Machine {
 
 /// The machine after a program without jumps, from reset.
 pub fn after(program: &[Instruction]) -> Machine {
-    pass(Machine::reset(), program)
+    pass(reset(), program)
 }
 
 /// One instruction on a machine, with an input.
@@ -57,7 +80,7 @@ pub fn with_input(mut machine: Machine, input: &Input, i: Instruction) -> Machin
 
 /// Reset, with these cells set.
 pub fn cells(set: &[(u8, u8)]) -> Machine {
-    let mut machine = Machine::reset();
+    let mut machine = reset();
     for &(address, value) in set {
         machine.cells[usize::from(address)] = value;
     }
@@ -177,8 +200,13 @@ impl Random {
 
     /// A machine in range.
     pub fn machine(&mut self) -> Machine {
-        let mut machine = Machine::reset();
-        for (cell, &bits) in machine.cells.iter_mut().zip(&reference::machine::WRITABLE) {
+        self.machine_of(MODEL)
+    }
+
+    /// A machine in range for a model.
+    pub fn machine_of(&mut self, model: Model) -> Machine {
+        let mut machine = Machine::reset(model);
+        for (cell, &bits) in machine.cells.iter_mut().zip(model.writable()) {
             *cell = self.nibble() & bits;
         }
         machine.pc = self.below(1024) as u16;

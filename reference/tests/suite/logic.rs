@@ -102,7 +102,7 @@ fn section_18_5_7_load_and_store() {
 
 #[test]
 fn nop_moves_pc_and_divider_alone() {
-    let mut wanted = Machine::reset();
+    let mut wanted = reset();
     wanted.pc = 1;
     wanted.peripherals = cycles_on(1);
     assert_eq!(after(&[Nop]), wanted);
@@ -110,9 +110,9 @@ fn nop_moves_pc_and_divider_alone() {
 
 #[test]
 fn reset_is_all_zero_but_for_the_timer() {
-    let m = Machine::reset();
+    let m = reset();
     assert_eq!((m.cells, m.pc, m.stack), ([0; 128], 0, [0; 5]));
     assert_eq!((m.levels, m.skip, m.standby), (0, 0, 0));
     assert_eq!(m.peripherals, cycles_on(0));
-    assert!(m.in_range());
+    assert!(in_range(&m));
 }

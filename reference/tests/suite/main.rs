@@ -9,6 +9,8 @@ mod halted;
 mod kit;
 mod lines;
 mod logic;
+mod missing;
+mod models;
 mod numbers;
 mod ports;
 mod refusals;

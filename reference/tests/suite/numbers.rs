@@ -2,7 +2,7 @@
 
 use crate::kit::*;
 use reference::Instruction::*;
-use reference::{encode, step, Answer, Machine};
+use reference::{encode, Answer, Machine};
 
 #[test]
 fn words_1_to_4() {
@@ -77,7 +77,7 @@ fn addition_to_the_status_word() {
 
 #[test]
 fn pc_after_1023() {
-    let mut m = Machine::reset();
+    let mut m = reset();
     m.pc = 1023;
     let full = vec![encode(Nop).unwrap(); 1024];
     assert_eq!(step(&full, &mut m, &quiet(), 0), Answer::Done);
@@ -90,7 +90,7 @@ fn pc_after_1023() {
 #[test]
 fn sixth_call() {
     let program = rom(&[Call { addr: 0 }]);
-    let mut m = Machine::reset();
+    let mut m = reset();
     go(&program, &mut m, 5);
     assert_eq!((m.levels, m.stack), (5, [1; 5]));
     assert_eq!(step(&program, &mut m, &quiet(), 0), Answer::Refused(6));

@@ -83,7 +83,7 @@ fn timer_output() {
 fn all_inputs_at_reset() {
     for (port, &address) in PORTS.iter().enumerate() {
         let input = port_input(port, 0xF, 0xF);
-        let m = with_input(Machine::reset(), &input, Ld { r: 0, m: address });
+        let m = with_input(reset(), &input, Ld { r: 0, m: address });
         assert_eq!(at(&m, 0), if address == 0x6F { 3 } else { 0xF });
     }
 }
@@ -107,7 +107,7 @@ fn a_write_stores_the_whole_nibble() {
     for (port, &address) in PORTS.iter().enumerate() {
         for direction in 0..16 {
             let (register, _) = registers(port, direction);
-            let machine = with_registers(Machine::reset(), &[register]);
+            let machine = with_registers(reset(), &[register]);
             let m = with_input(machine, &quiet(), mov(address, 0xF));
             assert_eq!(at(&m, address), if address == 0x6F { 3 } else { 0xF });
         }

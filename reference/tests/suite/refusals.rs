@@ -3,7 +3,7 @@
 
 use crate::kit::*;
 use reference::Instruction::*;
-use reference::{encode, run, step, Answer, Count, Input, Machine, Report};
+use reference::{encode, Answer, Count, Input, Machine, Report};
 
 /// The step and the run are refused so, and leave the record as it came.
 fn refused(rom: &[u16], machine: &Machine, input: &Input, number: u8) {
@@ -16,7 +16,7 @@ fn refused(rom: &[u16], machine: &Machine, input: &Input, number: u8) {
 }
 
 fn full_stack() -> Machine {
-    let mut machine = Machine::reset();
+    let mut machine = reset();
     machine.levels = 5;
     machine.stack = [1, 2, 3, 4, 1023];
     machine
@@ -28,9 +28,9 @@ fn nop() -> Vec<u16> {
 
 #[test]
 fn one_for_the_rom() {
-    refused(&[], &Machine::reset(), &quiet(), 1);
-    refused(&vec![nop()[0]; 1025], &Machine::reset(), &quiet(), 1);
-    let mut machine = Machine::reset();
+    refused(&[], &reset(), &quiet(), 1);
+    refused(&vec![nop()[0]; 1025], &reset(), &quiet(), 1);
+    let mut machine = reset();
     assert_eq!(step(&vec![nop()[0]; 1024], &mut machine, &quiet(), 0), Answer::Done);
 }
 
@@ -47,7 +47,7 @@ fn one_for_each_cell() {
         for value in 0..=255 {
             let machine = cells(&[(address, value)]);
             let good = value <= 15 && value & fixed == 0;
-            assert_eq!(machine.in_range(), good, "{address:02X} {value}");
+            assert_eq!(in_range(&machine), good, "{address:02X} {value}");
             if !good && (value < 32 || value == 255) {
                 refused(&nop(), &machine, &quiet(), 1);
             }
@@ -74,12 +74,12 @@ fn one_for_each_other_field() {
         |m| m.peripherals.divider = 255,
     ];
     for change in changes {
-        let mut machine = Machine::reset();
+        let mut machine = reset();
         change(&mut machine);
-        assert!(!machine.in_range());
+        assert!(!in_range(&machine));
         refused(&nop(), &machine, &quiet(), 1);
     }
-    assert!(full_stack().in_range());
+    assert!(in_range(&full_stack()));
 }
 
 /// Document 02, E4: a bit that a register does not have, TMRES too. Every
@@ -89,10 +89,10 @@ fn one_for_each_control_register() {
     let kept = [0b1011, 0b0001, 0b0001, 0b0011, 0b1111, 0b1111, 0b1111];
     for (place, bits) in kept.into_iter().enumerate() {
         for value in 0..=255_u8 {
-            let mut machine = Machine::reset();
+            let mut machine = reset();
             machine.peripherals.registers[place] = value;
             let good = value & !bits == 0;
-            assert_eq!(machine.in_range(), good, "{place} {value}");
+            assert_eq!(in_range(&machine), good, "{place} {value}");
             if !good {
                 refused(&nop(), &machine, &quiet(), 1);
                 machine.standby = Machine::STOP;
@@ -101,11 +101,11 @@ fn one_for_each_control_register() {
         }
     }
     for value in 0..=255 {
-        let mut machine = Machine::reset();
+        let mut machine = reset();
         machine.peripherals.modulo = value;
         machine.peripherals.counter = !value;
         machine.peripherals.divider = value / 2;
-        assert!(machine.in_range());
+        assert!(in_range(&machine));
     }
 }
 
@@ -113,7 +113,7 @@ fn one_for_each_control_register() {
 #[test]
 fn one_for_the_pulse() {
     for standby in [0, Machine::HALT, Machine::STOP] {
-        let machine = Machine { standby, ..Machine::reset() };
+        let machine = Machine { standby, ..reset() };
         let mut after = machine.clone();
         for pulse in [2, 3, 128, 255] {
             assert_eq!(step(&nop(), &mut after, &quiet(), pulse), Answer::Refused(1));
@@ -138,9 +138,9 @@ fn one_for_each_input() {
         .chain([Input { release: 2, ..quiet() }])
         .collect();
     for input in loud {
-        refused(&nop(), &Machine::reset(), &input, 1);
+        refused(&nop(), &reset(), &input, 1);
         // A machine in standby meets it too.
-        let mut machine = Machine::reset();
+        let mut machine = reset();
         machine.standby = 1;
         refused(&nop(), &machine, &input, 1);
     }
@@ -151,7 +151,7 @@ fn one_for_each_input() {
 
 #[test]
 fn two_past_the_rom() {
-    let mut machine = Machine::reset();
+    let mut machine = reset();
     machine.pc = 1;
     refused(&nop(), &machine, &quiet(), 2);
     machine.pc = 1023;
@@ -163,10 +163,10 @@ fn two_past_the_rom() {
 #[test]
 fn three_and_four_for_the_word() {
     for word in [0x6800, 0x7000, 0x7FFF, 0xB800, 0xBFFF, 0x3800, 0x3811, 0x3910, 0x3CF1] {
-        refused(&[word], &Machine::reset(), &quiet(), 3);
+        refused(&[word], &reset(), &quiet(), 3);
     }
     for instruction in [Ei, Di, Reti] {
-        refused(&rom(&[instruction]), &Machine::reset(), &quiet(), 4);
+        refused(&rom(&[instruction]), &reset(), &quiet(), 4);
     }
 }
 
@@ -186,7 +186,7 @@ fn thirty_for_registers_and_peripherals() {
     assert_eq!(count, 2 * 57 + 2 * 127);
     // 2 comes before it, and a skipped word does not meet it.
     let program = rom(&[Peek { rf: 0 }]);
-    let mut machine = Machine { pc: 1, ..Machine::reset() };
+    let mut machine = Machine { pc: 1, ..reset() };
     refused(&program, &machine, &quiet(), 2);
     (machine.pc, machine.skip) = (0, 1);
     assert_eq!(step(&program, &mut machine, &quiet(), 0), Answer::Done);
@@ -196,8 +196,8 @@ fn thirty_for_registers_and_peripherals() {
 #[test]
 fn five_for_the_address() {
     for addr in [1024, 1025, 2047] {
-        refused(&rom(&[Br { addr }]), &Machine::reset(), &quiet(), 5);
-        refused(&rom(&[Call { addr }]), &Machine::reset(), &quiet(), 5);
+        refused(&rom(&[Br { addr }]), &reset(), &quiet(), 5);
+        refused(&rom(&[Call { addr }]), &reset(), &quiet(), 5);
         // 5 comes before 6.
         refused(&rom(&[Call { addr }]), &full_stack(), &quiet(), 5);
     }
@@ -209,7 +209,7 @@ fn six_and_seven_for_the_stack() {
         refused(&rom(&[instruction]), &full_stack(), &quiet(), 6);
     }
     for instruction in [Ret, Retsk, PopAr] {
-        refused(&rom(&[instruction]), &Machine::reset(), &quiet(), 7);
+        refused(&rom(&[instruction]), &reset(), &quiet(), 7);
     }
 }
 
@@ -230,7 +230,7 @@ fn order_of_the_first_ones() {
     let mut machine = cells(&[(AR3, 1)]);
     machine.pc = 1023;
     refused(&nop(), &machine, &quiet(), 1);
-    let mut machine = Machine::reset();
+    let mut machine = reset();
     machine.pc = 1;
     refused(&[0x7FFF], &machine, &quiet(), 2);
     assert_eq!(encode(Br { addr: 4096 }), Err(10));

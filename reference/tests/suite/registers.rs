@@ -32,8 +32,8 @@ fn their_words() {
 #[test]
 fn at_reset() {
     let wanted = [8, 0, 0, 0, 0, 0, 0];
-    let reset = Peripherals { registers: wanted, modulo: 0xFF, counter: 0, divider: 0 };
-    assert_eq!(Machine::reset().peripherals, reset);
+    let told = Peripherals { registers: wanted, modulo: 0xFF, counter: 0, divider: 0 };
+    assert_eq!(reset().peripherals, told);
     for (&(rf, _), value) in REGISTERS.iter().zip(wanted) {
         assert_eq!(at(&pass(cells(&[(WR, 0xA)]), &[Peek { rf }]), WR), value);
     }

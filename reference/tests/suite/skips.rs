@@ -2,7 +2,7 @@
 
 use crate::kit::*;
 use reference::Instruction::{self, *};
-use reference::{decode, step, Answer, Machine};
+use reference::{decode, Answer};
 
 /// Does this test on 10H holding `value` skip?
 fn skips(value: u8, test: Instruction) -> bool {
@@ -71,17 +71,17 @@ fn bit_tests_clear_compare() {
 #[test]
 fn a_skipped_word_is_not_decoded() {
     for word in 0..=u16::MAX {
-        let mut m = Machine::reset();
+        let mut m = reset();
         m.skip = 1;
         assert_eq!(step(&[word], &mut m, &quiet(), 0), Answer::Done);
-        let mut wanted = Machine::reset();
+        let mut wanted = reset();
         wanted.pc = 1;
         wanted.peripherals = cycles_on(1);
         assert_eq!(m, wanted);
     }
     let rom = [rom(&[Ske { m: 0, n: 0 }])[0], 0xB800, rom(&[Nop])[0]];
     assert_eq!(decode(rom[1]), None);
-    let mut m = Machine::reset();
+    let mut m = reset();
     go(&rom, &mut m, 3);
     assert_eq!(m.pc, 3);
 }
@@ -90,7 +90,7 @@ fn a_skipped_word_is_not_decoded() {
 #[test]
 fn a_skip_is_spent_on_one_word() {
     let program = rom(&[Ske { m: 0, n: 0 }, Ske { m: 0, n: 0 }, mov(0x10, 7)]);
-    let mut m = Machine::reset();
+    let mut m = reset();
     go(&program, &mut m, 3);
     assert_eq!(at(&m, 0x10), 7);
 }
@@ -99,7 +99,7 @@ fn a_skip_is_spent_on_one_word() {
 fn a_skip_at_the_last_word() {
     let mut full = vec![rom(&[Nop])[0]; 1024];
     full[1023] = 0xFFFF; // SKF 7FH,#0FH
-    let mut m = Machine::reset();
+    let mut m = reset();
     m.pc = 1023;
     go(&full, &mut m, 1);
     assert_eq!((m.pc, m.skip), (0, 1));
@@ -110,7 +110,7 @@ fn a_skip_at_the_last_word() {
 /// A pending skip still meets refusal 2.
 #[test]
 fn a_skip_past_the_rom() {
-    let mut m = Machine::reset();
+    let mut m = reset();
     let program = rom(&[Ske { m: 0, n: 0 }]);
     go(&program, &mut m, 1);
     let before = m.clone();

@@ -2,12 +2,12 @@
 
 use crate::kit::*;
 use reference::Instruction::*;
-use reference::{encode, step, Answer, Machine};
+use reference::{encode, Answer};
 
 #[test]
 fn call_and_return() {
     let program = rom(&[Nop, Call { addr: 4 }, Nop, Nop, Ret]);
-    let mut m = Machine::reset();
+    let mut m = reset();
     go(&program, &mut m, 2);
     assert_eq!((m.pc, m.levels, m.stack), (4, 1, [2, 0, 0, 0, 0]));
     go(&program, &mut m, 1);
@@ -17,7 +17,7 @@ fn call_and_return() {
 #[test]
 fn return_and_skip() {
     let program = [rom(&[Call { addr: 3 }])[0], 0x7FFF, rom(&[Nop])[0], rom(&[Retsk])[0]];
-    let mut m = Machine::reset();
+    let mut m = reset();
     go(&program, &mut m, 2);
     assert_eq!((m.pc, m.levels, m.stack, m.skip), (1, 0, [0; 5], 1));
     go(&program, &mut m, 1);
@@ -30,7 +30,7 @@ fn five_levels() {
     let calls: Vec<_> = (0..5).map(|n| Call { addr: n + 1 }).collect();
     let mut program = rom(&calls);
     program.push(encode(Ret).unwrap());
-    let mut m = Machine::reset();
+    let mut m = reset();
     go(&program, &mut m, 5);
     assert_eq!((m.pc, m.levels, m.stack), (5, 5, [1, 2, 3, 4, 5]));
     for open in (0..5).rev() {
@@ -49,7 +49,7 @@ fn five_levels() {
 fn call_at_the_last_word() {
     let mut full = vec![encode(Nop).unwrap(); 1024];
     full[1023] = encode(Call { addr: 7 }).unwrap();
-    let mut m = Machine::reset();
+    let mut m = reset();
     m.pc = 1023;
     go(&full, &mut m, 1);
     assert_eq!((m.pc, m.levels, m.stack), (7, 1, [0; 5]));
@@ -63,7 +63,7 @@ fn section_18_5_8_branches() {
     assert_eq!((m.pc, m.levels), (0x03F, 0));
     // A target past the ROM is refused with 2 at the next step.
     let program = rom(&[Br { addr: 1023 }]);
-    let mut m = Machine::reset();
+    let mut m = reset();
     go(&program, &mut m, 1);
     assert_eq!(step(&program, &mut m, &quiet(), 0), Answer::Refused(2));
 }
@@ -90,7 +90,7 @@ fn section_18_5_7_table_after_a_call() {
     program[0x10] = encode(Call { addr: 0x20 }).unwrap();
     program[0x11] = 0x1A1F;
     program[0x20..0x24].copy_from_slice(&rom(&[PopAr, Movt, IncAr, BrAr]));
-    let mut m = Machine::reset();
+    let mut m = reset();
     m.pc = 0x10;
     go(&program, &mut m, 2);
     assert_eq!(m.cells[0x74..0x78], [0, 0, 1, 1]);
@@ -104,7 +104,7 @@ fn section_18_5_7_table_reference() {
     let mut program = rom(&[mov(AR3, 0), mov(AR2, 0), mov(AR1, 1), mov(AR0, 1), Movt]);
     program.resize(0x12, 0);
     program[0x11] = 0xABCD;
-    let mut m = Machine::reset();
+    let mut m = reset();
     go(&program, &mut m, 5);
     assert_eq!(m.cells[0x0C..0x10], [0xA, 0xB, 0xC, 0xD]);
     assert_eq!((m.pc, m.levels, m.stack), (5, 0, [0; 5]));
@@ -114,7 +114,7 @@ fn section_18_5_7_table_reference() {
 #[test]
 fn table_reference_and_levels() {
     for levels in 0..=5_u8 {
-        let mut m = Machine::reset();
+        let mut m = reset();
         m.levels = levels;
         m.stack[..usize::from(levels)].fill(9);
         let before = m.clone();

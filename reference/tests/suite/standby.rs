@@ -2,7 +2,7 @@
 
 use crate::kit::*;
 use reference::Instruction::*;
-use reference::{run, step, Answer, Count, Input, Machine, Report};
+use reference::{Answer, Count, Input, Machine, Report};
 
 fn released() -> Input {
     Input { release: 1, ..quiet() }
@@ -21,8 +21,8 @@ fn every_operand_stands_by() {
             [(Halt { cond }, Machine::HALT), (Stop { cond }, Machine::STOP)]
         {
             for input in [quiet(), released()] {
-                let m = with_input(Machine::reset(), &input, instruction);
-                let mut wanted = Machine::reset();
+                let m = with_input(reset(), &input, instruction);
+                let mut wanted = reset();
                 wanted.pc = 1;
                 wanted.standby = standby;
                 wanted.peripherals = cycles_on(1);
@@ -35,7 +35,7 @@ fn every_operand_stands_by() {
 #[test]
 fn standby_and_release() {
     let program = rom(&[Stop { cond: 8 }, mov(0x10, 5), Br { addr: 1 }]);
-    let mut m = Machine::reset();
+    let mut m = reset();
     go(&program, &mut m, 1);
     let stood = m.clone();
     assert_eq!(step(&program, &mut m, &quiet(), 0), Answer::Standby);
@@ -51,7 +51,7 @@ fn standby_and_release() {
 #[test]
 fn standby_past_the_rom() {
     let program = rom(&[Halt { cond: 0 }]);
-    let mut m = Machine::reset();
+    let mut m = reset();
     go(&program, &mut m, 1);
     assert_eq!(step(&program, &mut m, &quiet(), 0), Answer::Standby);
     assert_eq!(step(&[], &mut m, &quiet(), 0), Answer::Refused(1));
@@ -65,7 +65,7 @@ fn standby_past_the_rom() {
 /// Both marks at once: release, then the skip.
 #[test]
 fn standby_with_a_skip_pending() {
-    let mut m = Machine::reset();
+    let mut m = reset();
     m.skip = 1;
     m.standby = 1;
     assert_eq!(step(&[0x7FFF], &mut m, &quiet(), 0), Answer::Standby);
@@ -77,21 +77,21 @@ fn standby_with_a_skip_pending() {
 fn runs_end_at_the_budget() {
     let program = rom(&[AddMN { m: 0x10, n: 1 }, Br { addr: 0 }]);
     for budget in [0, 1, 2, 3, 100, 65_535] {
-        let mut m = Machine::reset();
+        let mut m = reset();
         assert_eq!(run(&program, &mut m, &quiet(), 0, budget), report(budget, 0));
         assert_eq!(u32::from(m.pc), budget % 2);
         assert_eq!(u32::from(at(&m, 0x10)), budget.div_ceil(2) % 16);
     }
-    let mut m = Machine::reset();
+    let mut m = reset();
     assert_eq!(run(&program, &mut m, &quiet(), 0, 65_536), report(0, 1));
     assert_eq!(run(&program, &mut m, &quiet(), 0, u32::MAX), report(0, 1));
-    assert_eq!(m, Machine::reset());
+    assert_eq!(m, reset());
 }
 
 #[test]
 fn runs_end_in_standby() {
     let program = rom(&[Nop, Stop { cond: 0 }, Nop, Halt { cond: 0 }, Br { addr: 0 }]);
-    let mut m = Machine::reset();
+    let mut m = reset();
     assert_eq!(run(&program, &mut m, &quiet(), 0, 100), report(2, 0));
     assert_eq!((m.pc, m.standby), (2, Machine::STOP));
     let stood = m.clone();
@@ -109,7 +109,7 @@ fn runs_end_in_standby() {
 #[test]
 fn runs_end_at_a_refusal() {
     let program = rom(&[mov(0x10, 5), mov(0x11, 6), Ret]);
-    let mut m = Machine::reset();
+    let mut m = reset();
     assert_eq!(run(&program, &mut m, &quiet(), 0, 100), report(2, 7));
     let mut wanted = cells(&[(0x10, 5), (0x11, 6)]);
     wanted.pc = 2;
@@ -131,15 +131,15 @@ fn runs_end_at_a_refusal() {
 fn run_ranges() {
     let program = rom(&[Br { addr: 0 }]);
     for budget in [0, 1, 65_535, 65_536] {
-        let mut m = Machine::reset();
+        let mut m = reset();
         m.cells[AR3 as usize] = 1;
         let before = m.clone();
         assert_eq!(run(&program, &mut m, &quiet(), 0, budget), report(0, 1));
         assert_eq!(m, before);
-        let mut m = Machine::reset();
+        let mut m = reset();
         assert_eq!(run(&[], &mut m, &quiet(), 0, budget), report(0, 1));
         let loud = Input { release: 2, ..quiet() };
         assert_eq!(run(&program, &mut m, &loud, 0, budget), report(0, 1));
-        assert_eq!(m, Machine::reset());
+        assert_eq!(m, reset());
     }
 }

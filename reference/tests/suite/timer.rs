@@ -2,7 +2,7 @@
 
 use crate::kit::*;
 use reference::Instruction::{self, *};
-use reference::{run, step, Answer, Machine, Peripherals};
+use reference::{Answer, Machine, Peripherals};
 
 /// Modes of 11H that run: fx/256, fx/32, fx/2048 and the INT pin.
 const BY_256: u8 = 0b1000;
@@ -14,7 +14,7 @@ const BY_PIN: u8 = 0b1011;
 fn machine(mode: u8, modulo: u8, counter: u8, divider: u8) -> Machine {
     let registers = [mode, 0, 0, 0, 0, 0, 0];
     let peripherals = Peripherals { registers, modulo, counter, divider };
-    Machine { peripherals, ..Machine::reset() }
+    Machine { peripherals, ..reset() }
 }
 
 /// Counter and divider after one step of an instruction.
@@ -25,7 +25,7 @@ fn one(mut machine: Machine, instruction: Instruction, pulse: u8) -> (u8, u8) {
 
 /// The counter after so many steps of a ROM.
 fn counter_after(rom: &[u16], steps: u32) -> u8 {
-    let mut machine = Machine::reset();
+    let mut machine = reset();
     assert_eq!(run(rom, &mut machine, &quiet(), 0, steps).count.steps, steps);
     machine.peripherals.counter
 }
@@ -44,7 +44,7 @@ fn from_reset() {
 
 /// Modulo 1 and fx/32 with TMRES, then GET in a loop: what GET finds.
 fn found(program: &[u16], steps: [usize; 4]) -> [u8; 4] {
-    let mut machine = Machine::reset();
+    let mut machine = reset();
     let mut done = 0;
     steps.map(|step| {
         go(program, &mut machine, step - done);
@@ -58,7 +58,7 @@ fn a_loop_of_gets() {
     let program = [0xE8F1, 0xE8E0, 0x38A3, 0xEF8D, 0x3921, 0x38B2, 0x6005];
     assert_eq!(found(&program, [6, 8, 10, 12]), [0, 1, 0, 1]);
     // The match comes with the pulse of step 8.
-    let mut machine = Machine::reset();
+    let mut machine = reset();
     let counters: [u8; 8] = std::array::from_fn(|_| {
         go(&program, &mut machine, 1);
         machine.peripherals.counter
@@ -70,7 +70,7 @@ fn a_loop_of_gets() {
 #[test]
 fn a_pulse_with_the_poke() {
     let program = [0xE8F1, 0xE8E0, 0x38A3, 0xEF8D, 0x3CF0, 0x3921, 0x38B2, 0x6006];
-    let mut machine = Machine::reset();
+    let mut machine = reset();
     go(&program, &mut machine, 6);
     assert_eq!(machine.peripherals.counter, 1);
     assert_eq!(found(&program, [7, 9, 11, 13]), [1, 0, 1, 0]);
@@ -325,7 +325,7 @@ fn beside_a_watch() {
     let words = [Nop, Movt, Get { p: 2 }, Put { p: 3 }, Poke { rf: 0x11 }, Peek { rf: 0x11 }];
     let skip = Skt { m: 0x10, n: 0 };
     for _ in 0..200 {
-        let mut machine = Machine::reset();
+        let mut machine = reset();
         let mut watch = Watch { cycles: 0, counter: 0 };
         for _ in 0..2_000 {
             let instruction = match random.below(24) {

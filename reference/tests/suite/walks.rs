@@ -2,23 +2,22 @@
 
 use crate::kit::*;
 use reference::Instruction::{self, *};
-use reference::{decode, encode, run, step, verify};
-use reference::{Answer, Count, Input, Machine, Peripherals, Report, Verdict};
+use reference::{decode, encode};
+use reference::{Answer, Count, Input, Machine, Model, Peripherals, Report, Verdict};
 
 /// Whatever comes, a step keeps the range, and a refused one the record.
-#[test]
-fn random_steps() {
-    let mut random = Random::new(1);
+fn random_steps(model: Model, seed: u64) {
+    let mut random = Random::new(seed);
     for _ in 0..300_000 {
         let rom: Vec<u16> = (0..=random.below(1024).min(20)).map(|_| random.word()).collect();
-        let mut machine = random.machine();
+        let mut machine = random.machine_of(model);
         machine.pc = random.below(rom.len() as u64 + 1) as u16;
         let before = machine.clone();
         let (input, pulse) = (random.input(), random.pulse());
-        match step(&rom, &mut machine, &input, pulse) {
-            Answer::Done => assert!(machine.in_range(), "{before:?}"),
+        match reference::step(model, &rom, &mut machine, &input, pulse) {
+            Answer::Done => assert!(machine.in_range(model), "{before:?}"),
             Answer::Standby => {
-                assert!(machine.in_range(), "{before:?}");
+                assert!(machine.in_range(model), "{before:?}");
                 assert_eq!(machine == before, before.standby == Machine::STOP);
                 machine.peripherals.counter = before.peripherals.counter;
                 machine.peripherals.divider = before.peripherals.divider;
@@ -26,15 +25,26 @@ fn random_steps() {
             }
             Answer::Refused(number) => {
                 assert_eq!(machine, before);
-                assert!(matches!(number, 2..=8 | 30));
+                assert!(matches!(number, 2..=8 | 30) || number == 31 && model != Model::Upd17132);
             }
         }
     }
 }
 
+#[test]
+fn random_steps_of_the_17132() {
+    random_steps(Model::Upd17132, 1);
+}
+
+#[test]
+fn random_steps_of_the_17120() {
+    random_steps(Model::Upd17120, 11);
+}
+
 /// A run is its steps, one after the other, and a MOVT that is not skipped
 /// takes a cycle more.
 fn run_by_steps(
+    model: Model,
     rom: &[u16],
     machine: &mut Machine,
     input: &Input,
@@ -45,7 +55,7 @@ fn run_by_steps(
     while count.steps < budget {
         let skipped = machine.skip == 1;
         let word = rom.get(usize::from(machine.pc)).and_then(|&word| decode(word));
-        match step(rom, machine, input, pulse) {
+        match reference::step(model, rom, machine, input, pulse) {
             Answer::Done => {
                 count.steps += 1;
                 count.cycles += if word == Some(Movt) && !skipped { 2 } else { 1 };
@@ -60,14 +70,15 @@ fn run_by_steps(
     Report { count, refusal: 0 }
 }
 
-#[test]
-fn random_runs() {
-    let mut random = Random::new(2);
-    let mut longer = 0;
+/// Runs, and how many of them had a MOVT and how many were refused with 31.
+fn random_runs(model: Model, seed: u64) -> (u32, u32) {
+    let mut random = Random::new(seed);
+    let (mut longer, mut missing) = (0, 0);
     for _ in 0..30_000 {
-        let length = if random.below(8) == 0 { 1024 } else { 1 + random.below(40) };
+        let most = model.rom_words() as u64;
+        let length = if random.below(8) == 0 { most } else { 1 + random.below(40) };
         let rom: Vec<u16> = (0..length).map(|_| likely_word(&mut random, length)).collect();
-        let mut machine = random.machine();
+        let mut machine = random.machine_of(model);
         machine.pc = random.below(length) as u16;
         // Mostly a table that lies in the ROM.
         if random.below(4) > 0 {
@@ -76,12 +87,27 @@ fn random_runs() {
         let mut twin = machine.clone();
         let (input, pulse) = (random.input(), random.pulse());
         let budget = random.below(60) as u32;
-        let report = run(&rom, &mut machine, &input, pulse, budget);
-        assert_eq!(report, run_by_steps(&rom, &mut twin, &input, pulse, budget));
+        let report = reference::run(model, &rom, &mut machine, &input, pulse, budget);
+        assert_eq!(report, run_by_steps(model, &rom, &mut twin, &input, pulse, budget));
         assert_eq!(machine, twin);
         longer += u32::from(report.count.cycles > report.count.steps);
+        missing += u32::from(report.count.steps > 0 && report.refusal == 31);
     }
+    (longer, missing)
+}
+
+#[test]
+fn random_runs_of_the_17132() {
+    let (longer, missing) = random_runs(Model::Upd17132, 2);
     assert!(longer > 1_000, "{longer} runs with a MOVT");
+    assert_eq!(missing, 0);
+}
+
+#[test]
+fn random_runs_of_the_17120() {
+    let (longer, missing) = random_runs(Model::Upd17120, 12);
+    assert!(longer > 1_000, "{longer} runs with a MOVT");
+    assert!(missing > 1_000, "{missing} runs refused with 31 after some steps");
 }
 
 /// A word that is an instruction, at times MOVT or one that works on the timer;
@@ -156,50 +182,103 @@ fn inner(random: &mut Random, front: u16, level: u16) -> Instruction {
 }
 
 /// Demand 3, on lists of calls: never refused in range, never with another
-/// number than 1, and the open calls are the sheet's at every word.
-#[test]
-fn passed_roms() {
-    let mut random = Random::new(5);
+/// number than 1, and the open calls are the sheet's at every word. On a model
+/// that lacks cells a call in range may be refused with 31, and the rest holds.
+/// Answers the steps and the refusals with 31.
+fn passed_roms(model: Model, seed: u64) -> (u32, u32) {
+    let mut random = Random::new(seed);
+    let (mut steps, mut missing) = (0, 0);
     for _ in 0..300 {
         let (rom, depths) = passing_rom(&mut random);
-        assert_eq!(verify(&rom, &depths), Verdict::Pass);
-        let mut machine = Machine::reset();
-        let mut open = 0_u8;
+        assert_eq!(reference::verify(model, &rom, &depths), Verdict::Pass);
+        let mut walk = Walk { model, rom, depths, machine: Machine::reset(model), open: 0 };
         for _ in 0..500 {
-            assert_eq!(depths.get(usize::from(machine.pc)), Some(&open));
-            assert_eq!(machine.levels, open);
-            let (mut input, pulse) = (random.input(), random.pulse());
-            if random.below(20) == 0 {
-                assert_eq!(step(&rom, &mut machine, &input, 2), Answer::Refused(1));
-                input.pins[0] = 16;
-                assert_eq!(step(&rom, &mut machine, &input, pulse), Answer::Refused(1));
-                continue;
-            }
-            if random.below(4) == 0 {
-                let mut twin = machine.clone();
-                let budget = random.below(50) as u32;
-                let report = run(&rom, &mut machine, &input, pulse, budget);
-                assert_eq!(report.refusal, 0);
-                // A run that begins in standby does one step that is not counted.
-                if budget > 0 && twin.standby != 0 && input.release == 0 {
-                    assert_eq!(step(&rom, &mut twin, &input, pulse), Answer::Standby);
-                }
-                for _ in 0..report.count.steps {
-                    open = counted(&rom, &twin, open);
-                    assert_eq!(step(&rom, &mut twin, &input, pulse), Answer::Done);
-                    assert_eq!(depths[usize::from(twin.pc)], open);
-                }
-                assert_eq!(machine, twin);
-                continue;
-            }
-            let next = counted(&rom, &machine, open);
-            match step(&rom, &mut machine, &input, pulse) {
-                Answer::Done => open = next,
-                Answer::Standby => {}
-                Answer::Refused(number) => panic!("refused with {number}"),
-            }
+            let (done, refused) = walk.call(&mut random);
+            steps += done;
+            missing += u32::from(refused);
         }
     }
+    (steps, missing)
+}
+
+/// A machine on a passed ROM, and the open calls counted from the words that ran.
+struct Walk {
+    model: Model,
+    rom: Vec<u16>,
+    depths: Vec<u8>,
+    machine: Machine,
+    open: u8,
+}
+
+impl Walk {
+    /// A step or a run: its steps, and whether it was refused with 31.
+    fn call(&mut self, random: &mut Random) -> (u32, bool) {
+        self.moment();
+        let (mut input, pulse) = (random.input(), random.pulse());
+        if random.below(20) == 0 {
+            assert_eq!(self.step(&input, 2), Answer::Refused(1));
+            input.pins[0] = 16;
+            assert_eq!(self.step(&input, pulse), Answer::Refused(1));
+            return (0, false);
+        }
+        if random.below(4) == 0 {
+            return self.run(&input, pulse, random.below(50) as u32);
+        }
+        match self.step(&input, pulse) {
+            Answer::Done => (1, false),
+            Answer::Standby => (0, false),
+            Answer::Refused(number) => (0, self.is_missing(number)),
+        }
+    }
+
+    /// A refusal in range is 31, on a model that lacks cells.
+    fn is_missing(&self, number: u8) -> bool {
+        assert_eq!(number, 31);
+        assert_ne!(self.model, Model::Upd17132);
+        true
+    }
+
+    fn step(&mut self, input: &Input, pulse: u8) -> Answer {
+        let next = counted(&self.rom, &self.machine, self.open);
+        let answer = reference::step(self.model, &self.rom, &mut self.machine, input, pulse);
+        if answer == Answer::Done {
+            self.open = next;
+        }
+        self.moment();
+        answer
+    }
+
+    /// A run, and the same by steps.
+    fn run(&mut self, input: &Input, pulse: u8, budget: u32) -> (u32, bool) {
+        let mut left = self.machine.clone();
+        let report = reference::run(self.model, &self.rom, &mut left, input, pulse, budget);
+        // A run that begins in standby does one step that is not counted.
+        if budget > 0 && self.machine.standby != 0 && input.release == 0 {
+            assert_eq!(self.step(input, pulse), Answer::Standby);
+        }
+        for _ in 0..report.count.steps {
+            assert_eq!(self.step(input, pulse), Answer::Done);
+        }
+        assert_eq!(self.machine, left);
+        (report.count.steps, report.refusal != 0 && self.is_missing(report.refusal))
+    }
+
+    /// The word about to run lies in the ROM, and its level is the open calls.
+    fn moment(&self) {
+        assert_eq!(self.depths.get(usize::from(self.machine.pc)), Some(&self.open));
+        assert_eq!(self.machine.levels, self.open);
+    }
+}
+
+#[test]
+fn passed_roms_of_the_17132() {
+    assert_eq!(passed_roms(Model::Upd17132, 5).1, 0);
+}
+
+#[test]
+fn passed_roms_of_the_17120() {
+    let (steps, missing) = passed_roms(Model::Upd17120, 15);
+    assert!(steps > 1_000 && missing > 1_000, "{steps} steps, {missing} refused with 31");
 }
 
 /// The open calls after the word at PC has run.

@@ -2,7 +2,7 @@
 
 use crate::kit::*;
 use reference::Instruction::{self, *};
-use reference::{decode, encode, step, Answer, Machine};
+use reference::{decode, encode, Answer};
 use std::collections::HashSet;
 
 #[test]
@@ -118,7 +118,7 @@ fn operands_too_large() {
 #[test]
 fn steps_and_words_agree() {
     for word in 0..=u16::MAX {
-        let mut machine = Machine::reset();
+        let mut machine = reset();
         machine.levels = 1;
         let answer = step(&[word], &mut machine, &quiet(), 0);
         let expected = match decode(word) {
