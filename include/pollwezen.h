@@ -1,4 +1,4 @@
-/* Pollwezen: the uPD17132 for a host program in C. Link libpollwezen.a, which `rt staticlib pollwezen` writes.
+/* Pollwezen: the uPD17132 and the uPD17120 for a host program in C. Link libpollwezen.a, which `rt staticlib pollwezen` writes.
  * The contracts are in crates/pollwezen/src/lib.rt; the definitions that they cite in the folders specs of crates/memory,
  * crates/peripherals, crates/machine and crates/cpu (record, step, run), crates/verifier and crates/clearance (the check), crates/listing (words),
  * crates/station_file, crates/transcript and crates/pollwezen.
@@ -6,7 +6,7 @@
  * argument overlaps. Where a length is 0 its pointer may be NULL, as tested; that of a lent record may not. Whatever stands in
  * them is answered or refused. No buffer is written past its length, and none is kept.
  * The library allocates nothing. As measured, pollwezen_transcript needs at most 50,000 bytes of stack and every other entry
- * 1,200, beside what the system's linker takes at a first call of memcpy or memset. */
+ * 1,300, beside what the system's linker takes at a first call of memcpy or memset. */
 #ifndef POLLWEZEN_H
 #define POLLWEZEN_H
 
@@ -28,7 +28,8 @@ extern "C" {
 #define POLLWEZEN_STANDBY 255 /* the machine stays in standby (a step only) */
 
 /* Every other number is a refusal of documents 01 and 02:
- *    1  record, mark, input or pulse out of range, ROM not 1 to 1,024 words, budget too large, row past the list
+ *    1  record, mark, input or pulse out of range, ROM of no word or of more than the model allows, budget too large, a missing
+ *       cell that is not 0, row past the list, a number that is no model's
  *    2  PC at or past the number of ROM words
  *    3  the word is no instruction
  *    4  EI, DI or RETI
@@ -37,6 +38,7 @@ extern "C" {
  *    6  stack full
  *    7  stack empty
  *    8  MOVT past the ROM
+ *   31  a missing cell read or written: on the 17120 one of 40H to 6EH (after 8)
  *    9  the sheet has not the ROM's length
  *   10  an operand too large for its field, or one that the row does not have
  *   20  form number of a file other than 1
@@ -45,6 +47,12 @@ extern "C" {
  *   23  an entry or input out of range
  *   24  bytes after the end
  *   25  the lent buffer is too short */
+
+/* The models. The 17120 has at most 768 ROM words, and the cells 40H to 6EH are not installed; all else is the 17132's. Every entry
+ * that works a board takes the number of its model, the same one as long as a record lives. A number that is none is refused with
+ * 1, and what is lent stays as it is. Station files are those of the 17132, and so are pollwezen_read, _write and _transcript. */
+#define POLLWEZEN_17132 0
+#define POLLWEZEN_17120 1
 
 /* The most that a station file has, and what its text never exceeds. Buffers of these sizes are never too short. */
 #define POLLWEZEN_WORDS 1024        /* ROM words, and sheet entries */
@@ -142,21 +150,26 @@ typedef struct {
         "BR addr", "BR @AR", "CALL addr", "CALL @AR", "RET", "RETSK", "RETI", "EI", "DI", "STOP s", "HALT h", "NOP" \
     }
 
-pollwezen_machine pollwezen_reset(void);
+/* Writes a model's reset record over the lent one, whatever that holds. Refusal: 1, for the model; then the record stays. */
+uint8_t pollwezen_reset(uint8_t model, pollwezen_machine *machine);
 
 /* One step on the lent record. The pulse, 0 or 1, is the INT clock's: where the program chose that clock (TMCK 11), 1 is one pulse of
  * the step. A refusal leaves the record as it came; a step that stays in STOP too, and one that stays in HALT moves the timer alone. A
  * run with a budget of 1 tells the step's cycles too. */
-uint8_t pollwezen_step(const uint16_t *rom, size_t words, pollwezen_machine *machine, pollwezen_input input, uint8_t pulse);
+uint8_t pollwezen_step(uint8_t model, const uint16_t *rom, size_t words, pollwezen_machine *machine, pollwezen_input input,
+                       uint8_t pulse);
 
 /* A counted run on the lent record, of 0 to 65,535 steps, with one input and one pulse for all of them. It ends at a refusal, in
  * standby or at the budget. A refused run keeps the state of its completed steps and reports these. A run that begins in standby at
  * release 0 ends with one step that stays there, if its budget is not 0: it reports no steps, and in HALT the timer has moved. */
-pollwezen_run_reply pollwezen_run(const uint16_t *rom, size_t words, pollwezen_machine *machine, pollwezen_input input,
-                                  uint8_t pulse, uint32_t budget);
+pollwezen_run_reply pollwezen_run(uint8_t model, const uint16_t *rom, size_t words, pollwezen_machine *machine,
+                                  pollwezen_input input, uint8_t pulse, uint32_t budget);
 
-/* The check of a ROM and its sheet, one level a word. Refusals: 1 for the ROM's length, 9 for the sheet's. */
-pollwezen_verdict_reply pollwezen_verify(const uint16_t *rom, size_t words, const uint8_t *sheet, size_t entries);
+/* The check of a ROM and its sheet, one level a word, for one model: a ROM that passes is run on that model. Refusals: 1 for the model
+ * or the ROM's length, 9 for the sheet's. On the 17132 a ROM that passed is never refused but with 1, for what the host gives. On
+ * the 17120 a step of it may also be refused with 31, since which cell an operand names is known only when it runs; PC and open
+ * levels are then still the sheet's. */
+pollwezen_verdict_reply pollwezen_verify(uint8_t model, const uint16_t *rom, size_t words, const uint8_t *sheet, size_t entries);
 
 /* The instruction that a word is. Refusal: 3. */
 pollwezen_decoded_row pollwezen_decode(uint16_t word);

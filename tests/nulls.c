@@ -11,13 +11,13 @@ static const uint8_t sheet[] = {0}, inputs[11] = {0};
 
 static void machines(void) {
     static const pollwezen_input none = {{0}, {0}, 0};
-    pollwezen_machine r = pollwezen_reset(), before = r;
-    expect(pollwezen_step(NULL, 0, &r, none, 0) == 1 && same(&r, &before), "a step with a NULL ROM");
-    pollwezen_run_reply ran = pollwezen_run(NULL, 0, &r, none, 0, 3);
+    pollwezen_machine r = fresh(), before = r;
+    expect(pollwezen_step(POLLWEZEN_17132, NULL, 0, &r, none, 0) == 1 && same(&r, &before), "a step with a NULL ROM");
+    pollwezen_run_reply ran = pollwezen_run(POLLWEZEN_17132, NULL, 0, &r, none, 0, 3);
     expect(ran.number == 1 && ran.steps == 0 && ran.cycles == 0 && same(&r, &before), "a run with a NULL ROM");
-    expect(pollwezen_verify(NULL, 0, NULL, 0).number == 1, "the check with NULL for both");
-    expect(pollwezen_verify(NULL, 0, sheet, 1).number == 1, "the check with a NULL ROM");
-    expect(pollwezen_verify(rom, 1, NULL, 0).number == 9, "the check with a NULL sheet");
+    expect(pollwezen_verify(POLLWEZEN_17132, NULL, 0, NULL, 0).number == 1, "the check with NULL for both");
+    expect(pollwezen_verify(POLLWEZEN_17132, NULL, 0, sheet, 1).number == 1, "the check with a NULL ROM");
+    expect(pollwezen_verify(POLLWEZEN_17132, rom, 1, NULL, 0).number == 9, "the check with a NULL sheet");
 }
 
 static void reads(void) {

@@ -34,15 +34,15 @@ static void stepped(const uint8_t *bytes) {
     pollwezen_input in;
     memcpy(&in, bytes, sizeof in);
     for (unsigned port = 0; port < 5; port++) {
-        pollwezen_machine a = pollwezen_reset(), b = a;
-        expect(pollwezen_step(&loads[port], 1, &a, in, 0) == POLLWEZEN_DONE, "a step with the bytes");
-        expect(pollwezen_step(&loads[port], 1, &b, by_field(bytes), 0) == POLLWEZEN_DONE, "a step with the fields");
+        pollwezen_machine a = fresh(), b = a;
+        expect(pollwezen_step(POLLWEZEN_17132, &loads[port], 1, &a, in, 0) == POLLWEZEN_DONE, "a step with the bytes");
+        expect(pollwezen_step(POLLWEZEN_17132, &loads[port], 1, &b, by_field(bytes), 0) == POLLWEZEN_DONE, "a step with the fields");
         expect(same(&a, &b) && a.cells[0] == bytes[port], "both read the pin");
         a.standby = b.standby = 1;
         a.pc = b.pc = 0;
         uint8_t number = bytes[10] == 1 ? POLLWEZEN_DONE : POLLWEZEN_STANDBY;
-        expect(pollwezen_step(&loads[port], 1, &a, in, 0) == number, "release with the bytes");
-        expect(pollwezen_step(&loads[port], 1, &b, by_field(bytes), 0) == number && same(&a, &b), "release with the fields");
+        expect(pollwezen_step(POLLWEZEN_17132, &loads[port], 1, &a, in, 0) == number, "release with the bytes");
+        expect(pollwezen_step(POLLWEZEN_17132, &loads[port], 1, &b, by_field(bytes), 0) == number && same(&a, &b), "release with the fields");
     }
 }
 

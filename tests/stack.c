@@ -9,7 +9,7 @@
 #include <ucontext.h>
 
 /* As the header says. */
-enum { MOST = 1200, MOST_OF_TRANSCRIPT = 50000 };
+enum { MOST = 1300, MOST_OF_TRANSCRIPT = 50000 };
 
 enum { ROOM = 1 << 18, PAINT = 0xA5 };
 static _Alignas(16) unsigned char painted[ROOM];
@@ -52,7 +52,7 @@ static void prepare(void) {
     for (unsigned i = 0; i < POLLWEZEN_WORDS; i++) {
         rom[i] = 0x6000;
     }
-    states[0] = pollwezen_reset();
+    states[0] = fresh();
     states[0].levels = 2;
     states[1] = states[0];
     states[1].cells[0x7A] = 8;
@@ -61,7 +61,8 @@ static void prepare(void) {
 }
 
 static void of_reset(void) {
-    machine = pollwezen_reset();
+    pollwezen_reset(POLLWEZEN_17132, &machine);
+    pollwezen_reset(POLLWEZEN_17120, &machine);
 }
 
 static void of_step(void) {
@@ -69,7 +70,9 @@ static void of_step(void) {
     for (unsigned i = 0; i < 2 * 65536; i++) {
         word = (uint16_t)i;
         machine = states[i >> 16];
-        pollwezen_step(&word, 1, &machine, none, 0);
+        pollwezen_step(POLLWEZEN_17132, &word, 1, &machine, none, 0);
+        machine = states[i >> 16];
+        pollwezen_step(POLLWEZEN_17120, &word, 1, &machine, none, 0);
     }
 }
 
@@ -78,15 +81,17 @@ static void of_run(void) {
     for (unsigned i = 0; i < 2 * 65536; i++) {
         word = (uint16_t)i;
         machine = states[i >> 16];
-        pollwezen_run(&word, 1, &machine, none, 0, 2);
+        pollwezen_run(POLLWEZEN_17132, &word, 1, &machine, none, 0, 2);
+        machine = states[i >> 16];
+        pollwezen_run(POLLWEZEN_17120, &word, 1, &machine, none, 0, 2);
     }
 }
 
 static void of_verify(void) {
-    refused |= pollwezen_verify(rom, POLLWEZEN_WORDS, sheet, POLLWEZEN_WORDS).number;
+    refused |= pollwezen_verify(POLLWEZEN_17132, rom, POLLWEZEN_WORDS, sheet, POLLWEZEN_WORDS).number;
     for (unsigned i = 0; i < 65536; i++) {
         uint16_t word = (uint16_t)i;
-        pollwezen_verify(&word, 1, sheet, 1);
+        pollwezen_verify(POLLWEZEN_17132, &word, 1, sheet, 1);
     }
 }
 

@@ -8,12 +8,12 @@ static const uint16_t polled[] = {0xE8F1, 0xE8E0, 0x38A3, 0xEF8D, 0x3921, 0x38B2
 
 static void poll(void) {
     static const uint8_t found[] = {0, 1, 0, 1};
-    pollwezen_machine r = pollwezen_reset();
-    expect(pollwezen_run(polled, 7, &r, none, 0, 5).steps == 5 && r.modulo == 1 && r.registers[0] == 9, "PUT and POKE set the timer");
+    pollwezen_machine r = fresh();
+    expect(pollwezen_run(POLLWEZEN_17132, polled, 7, &r, none, 0, 5).steps == 5 && r.modulo == 1 && r.registers[0] == 9, "PUT and POKE set the timer");
     for (unsigned k = 0; k < 4; k++) {
-        expect(pollwezen_step(polled, 7, &r, none, 0) == POLLWEZEN_DONE && r.cells[0x0F] == found[k] && r.cells[0x0E] == 0,
+        expect(pollwezen_step(POLLWEZEN_17132, polled, 7, &r, none, 0) == POLLWEZEN_DONE && r.cells[0x0F] == found[k] && r.cells[0x0E] == 0,
                "GET reads the counter");
-        expect(pollwezen_step(polled, 7, &r, none, 0) == POLLWEZEN_DONE, "BR");
+        expect(pollwezen_step(POLLWEZEN_17132, polled, 7, &r, none, 0) == POLLWEZEN_DONE, "BR");
     }
 }
 
@@ -21,12 +21,12 @@ static void poll(void) {
 static const uint16_t idle[] = {0x3CF0, 0x6000};
 
 static void pulses(void) {
-    pollwezen_machine r = pollwezen_reset();
-    expect(pollwezen_run(idle, 2, &r, none, 1, 16).steps == 16 && r.counter == 1, "with fx/256 the pulse bit is not counted");
-    r = pollwezen_reset();
+    pollwezen_machine r = fresh();
+    expect(pollwezen_run(POLLWEZEN_17132, idle, 2, &r, none, 1, 16).steps == 16 && r.counter == 1, "with fx/256 the pulse bit is not counted");
+    r = fresh();
     r.registers[0] = 11; /* TMEN and TMCK 11 */
-    expect(pollwezen_run(idle, 2, &r, none, 1, 16).steps == 16 && r.counter == 16, "with the INT clock each step has its pulse");
-    expect(pollwezen_run(idle, 2, &r, none, 0, 16).steps == 16 && r.counter == 16, "without a pulse it stays");
+    expect(pollwezen_run(POLLWEZEN_17132, idle, 2, &r, none, 1, 16).steps == 16 && r.counter == 16, "with the INT clock each step has its pulse");
+    expect(pollwezen_run(POLLWEZEN_17132, idle, 2, &r, none, 0, 16).steps == 16 && r.counter == 16, "without a pulse it stays");
     expect(r.divider == 32, "and the divider runs");
 }
 
@@ -38,11 +38,11 @@ static void standing(void) {
         uint8_t moved;
     } runs[] = {{POLLWEZEN_HALT, 0, 0}, {POLLWEZEN_HALT, 1, 1}, {POLLWEZEN_HALT, 65535, 1}, {POLLWEZEN_STOP, 65535, 0}};
     for (unsigned k = 0; k < 4; k++) {
-        pollwezen_machine r = pollwezen_reset(), before;
+        pollwezen_machine r = fresh(), before;
         r.standby = runs[k].standby;
         before = r;
         before.divider = runs[k].moved;
-        pollwezen_run_reply ran = pollwezen_run(idle, 2, &r, none, 0, runs[k].budget);
+        pollwezen_run_reply ran = pollwezen_run(POLLWEZEN_17132, idle, 2, &r, none, 0, runs[k].budget);
         expect(ran.number == POLLWEZEN_DONE && ran.steps == 0 && ran.cycles == 0 && same(&r, &before), "a run that begins in standby");
     }
 }
@@ -51,10 +51,10 @@ static void standing(void) {
 static void refused(void) {
     static const uint16_t words[] = {0x3830, 0x3A23, 0x38B3, 0x3CB0, 0x38A2};
     for (unsigned k = 0; k < 5; k++) {
-        pollwezen_machine r = pollwezen_reset(), before = r;
-        expect(pollwezen_step(&words[k], 1, &r, none, 0) == 30 && same(&r, &before), "no such register or peripheral");
+        pollwezen_machine r = fresh(), before = r;
+        expect(pollwezen_step(POLLWEZEN_17132, &words[k], 1, &r, none, 0) == 30 && same(&r, &before), "no such register or peripheral");
         r.skip = 1;
-        expect(pollwezen_step(&words[k], 1, &r, none, 0) == POLLWEZEN_DONE, "a skipped word is not looked at");
+        expect(pollwezen_step(POLLWEZEN_17132, &words[k], 1, &r, none, 0) == POLLWEZEN_DONE, "a skipped word is not looked at");
     }
 }
 

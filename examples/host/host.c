@@ -16,7 +16,7 @@ static const uint16_t rom[] = {
     0x6002, /* 007  BR 002 */
 };
 static const uint8_t sheet[] = {0, 0, 0, 0, 0, 0, 0, 0};
-enum { WORDS = sizeof rom / sizeof rom[0] };
+enum { WORDS = sizeof rom / sizeof rom[0], MODEL = POLLWEZEN_17132 };
 
 static int stop(const char *what, unsigned number) {
     printf("lamps -----\n");
@@ -25,15 +25,19 @@ static int stop(const char *what, unsigned number) {
 }
 
 int main(void) {
-    pollwezen_verdict_reply verdict = pollwezen_verify(rom, WORDS, sheet, WORDS);
+    pollwezen_verdict_reply verdict = pollwezen_verify(MODEL, rom, WORDS, sheet, WORDS);
     if (verdict.number != POLLWEZEN_DONE) {
         return stop("the ROM does not pass with its sheet", verdict.number);
     }
-    pollwezen_machine board = pollwezen_reset();
+    pollwezen_machine board;
+    uint8_t ready = pollwezen_reset(MODEL, &board);
+    if (ready != POLLWEZEN_DONE) {
+        return stop("no such model", ready);
+    }
     pollwezen_input input = {{0}, {0}, 0};
     uint8_t pulse = 0; /* nothing drives the INT pin */
     for (int refresh = 0; refresh < 8; refresh++) {
-        pollwezen_run_reply ran = pollwezen_run(rom, WORDS, &board, input, pulse, 5);
+        pollwezen_run_reply ran = pollwezen_run(MODEL, rom, WORDS, &board, input, pulse, 5);
         if (ran.number != POLLWEZEN_DONE) {
             return stop("refused", ran.number);
         }
