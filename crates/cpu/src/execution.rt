@@ -4,6 +4,8 @@ ghost use mathlib.Core.List.{List};
 ghost use Prim.Native.Nat.{ℕ};
 ghost use Rattle.memory.specs.Chip.{chipOf};
 ghost use Rattle.machine.specs.Signals.{Signals};
+ghost use Rattle.machine.specs.declared.Refusal.the-variants.{MissingCell};
+ghost use Rattle.control.specs.declared.Transfer.the-variants.{Refused};
 ghost use Rattle.peripherals.specs.Parts.{withTimer};
 ghost use Rattle.peripherals.specs.declared.Peripherals.{Peripherals as Parts};
 ghost use Rattle.operations.specs.Settings.{settingsOf};
@@ -82,7 +84,14 @@ fn fixed(
     }
 }
 
-// An instruction, but for what it sets of the peripherals. Nothing is written before the test for missing cells.
+fn missing() -> Transfer
+    ensures { λ r. ⌜ r ≡ Refused MissingCell ⌝ }
+{
+    Transfer::Refused(Refusal::MissingCell)
+}
+
+// An instruction, but for what it sets of the peripherals. Nothing is written before the test for missing cells. That stands in each
+// arm with operands: once, between `locate` and `match`, it keeps the compiler from joining the two by the instruction.
 pub(crate) fn execute(
     model: Model,
     rom: &[u16],
@@ -97,48 +106,75 @@ pub(crate) fn execute(
     ensures { λ r. ⌜ ((directions : List ℕ) (release pulse : ℕ) → executedOf (now (cells .exit)) (now (stack .exit)) (settingsOf (now (cells .entry)) (withTimer (now (registers .entry)) timer) instruction) (withTimer (now (registers .entry)) timer) regs r ≡ executeOf (chipOf model) (now (rom .entry)) (signalsAt (now (pins .entry)) directions release pulse) instruction (wholeOf (now (cells .entry)) (now (stack .entry)) (withTimer (now (registers .entry)) timer) regs)) ⌝ }
 {
     let a = operations::locate(model, &*cells, pins, registers, instruction);
-    if operations::lacks(model, a) {
-        return Transfer::Refused(Refusal::MissingCell);
-    }
     match instruction {
         Instruction::AluRegister { op, r: _, m: _ } => {
+            if operations::lacks(model, a) {
+                return missing();
+            }
             let b = operations::read(model, &*cells, pins, registers, a.from);
             operations::operate(model, cells, pins, registers, op, a.to, b);
             return Transfer::To(control::onward(model, regs, false));
         }
         Instruction::AluImmediate { op, m: _, n4 } => {
+            if operations::lacks(model, a) {
+                return missing();
+            }
             operations::operate(model, cells, pins, registers, op, a.to, n4);
             return Transfer::To(control::onward(model, regs, false));
         }
         Instruction::Skip { op, m: _, n4 } => {
+            if operations::lacks(model, a) {
+                return missing();
+            }
             let holds = operations::skip(model, cells, pins, registers, op, a.from, n4);
             return Transfer::To(control::onward(model, regs, holds));
         }
         Instruction::Rorc(_) => {
+            if operations::lacks(model, a) {
+                return missing();
+            }
             operations::rorc(model, cells, pins, registers, a.to);
             return Transfer::To(control::onward(model, regs, false));
         }
         Instruction::Ld { r: _, m: _ } => {
+            if operations::lacks(model, a) {
+                return missing();
+            }
             operations::transfer(model, cells, pins, registers, a);
             return Transfer::To(control::onward(model, regs, false));
         }
         Instruction::St { m: _, r: _ } => {
+            if operations::lacks(model, a) {
+                return missing();
+            }
             operations::transfer(model, cells, pins, registers, a);
             return Transfer::To(control::onward(model, regs, false));
         }
         Instruction::MovToIndirect { r: _, m: _ } => {
+            if operations::lacks(model, a) {
+                return missing();
+            }
             operations::transfer(model, cells, pins, registers, a);
             return Transfer::To(control::onward(model, regs, false));
         }
         Instruction::MovFromIndirect { m: _, r: _ } => {
+            if operations::lacks(model, a) {
+                return missing();
+            }
             operations::transfer(model, cells, pins, registers, a);
             return Transfer::To(control::onward(model, regs, false));
         }
         Instruction::MovImmediate { m: _, n4 } => {
+            if operations::lacks(model, a) {
+                return missing();
+            }
             memory::store(model, cells, a.to, n4);
             return Transfer::To(control::onward(model, regs, false));
         }
         Instruction::Peek(rf) => {
+            if operations::lacks(model, a) {
+                return missing();
+            }
             if !peripherals::in_file(rf) {
                 return Transfer::Refused(Refusal::NoRegister);
             }
@@ -146,6 +182,9 @@ pub(crate) fn execute(
             return Transfer::To(control::onward(model, regs, false));
         }
         Instruction::Poke(to) => {
+            if operations::lacks(model, a) {
+                return missing();
+            }
             if !peripherals::in_file(to) {
                 return Transfer::Refused(Refusal::NoRegister);
             }

@@ -18,7 +18,7 @@ use memory::Model;
 use peripherals::Peripherals;
 
 // The same control part. What is copied as a whole, as bytes, waits for the stores of its single fields and places; that counts in a
-// single step, and not in a run.
+// single step and in a short run.
 fn by_fields(control: Control) -> Control
     ensures { λ r. ⌜ r ≡ control ⌝ }
 {
@@ -98,14 +98,14 @@ pub(crate) fn step_by_parts(
     ensures { λ r. ⌜ r ≡ lentStepOf (stepOn (modelOf number) (now (rom .entry)) (signals input pulse) (record { memory = memory; peripherals = peripherals; control = control })) ⌝ }
 {
     let Selected::Model(model) = selected(number) else {
-        return left(
-            Machine {
+        return LentStep {
+            machine: Machine {
                 memory: memory,
-                peripherals: peripherals,
-                control: control,
+                peripherals: by_registers(peripherals),
+                control: by_fields(control),
             },
-            1,
-        );
+            number: 1,
+        };
     };
     let mut cells = memory.cells;
     let s = cpu::step_in_place(
@@ -160,10 +160,17 @@ pub(crate) fn run_by_value(
     };
     let r = cpu::run(model, rom, machine, input, pulse, budget);
     let after = r.machine;
+    let memory = after.memory;
+    let peripherals = after.peripherals;
+    let control = after.control;
     let count = r.count;
     let end = r.end;
     LentRun {
-        machine: after,
+        machine: Machine {
+            memory: memory,
+            peripherals: by_registers(peripherals),
+            control: by_fields(control),
+        },
         reply: RunReply {
             count: count,
             number: end.number(),

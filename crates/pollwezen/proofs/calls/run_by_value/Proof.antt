@@ -9,7 +9,8 @@ returns c = rw (sym (c .before .before .before .selected .ensures) ∙ c .before
 
 returns-2 : tie.Need-returns-2
 returns-2 c =
-    rw (sym (c .before .before .before .before .before .before .before .selected .ensures) ∙ c .before .before .before .before .before .model .given .1, c .number .ensures) (ap lentRunOf (c .before .before .before .run .ensures))
+    rw (sym (c .before .before .before .before .before .before .before .before .before .before .before .before .selected .ensures) ∙ c .before .before .before .before .before .before .before .before .before .before .model .given .1, c .number .ensures, c .before .by-fields .ensures, c .before .before .by-registers .ensures)
+    (ap lentRunOf (c .before .before .before .before .before .before .before .before .run .ensures))
 
 pub run-by-value-spec : {M : Type 1} → statement M
 run-by-value-spec =
@@ -20,6 +21,8 @@ run-by-value-spec =
     (λ c. search needs)
     (λ c κs. search needs)
     returns
+    (λ c κs. search needs)
+    (λ c κs. search needs)
     (λ c κs. search needs)
     (λ c κs. search needs)
     returns-2)

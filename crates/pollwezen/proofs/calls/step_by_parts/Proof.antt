@@ -5,12 +5,13 @@ use Rattle.pollwezen.proofs.calls.step_by_parts.Statement.{statement}
 use Rattle.pollwezen.proofs.calls.step_by_parts.Tie as tie
 
 returns : tie.Need-returns
-returns c = rw (sym (c .before .before .before .selected .ensures) ∙ c .before .enum-told .given .1) (c .left .ensures)
+returns c =
+    rw (sym (c .before .before .before .before .selected .ensures) ∙ c .before .before .enum-told .given .1, c .by-fields .ensures, c .before .by-registers .ensures)
 
 returns-2 : tie.Need-returns-2
 returns-2 c =
-    let e = rw (c .before .before .before .before .before .by-fields .ensures) at (c .before .before .before .before .step-in-place .ensures .0) in
-    rw (sym (c .before .before .before .before .before .before .before .before .before .before .before .selected .ensures) ∙ c .before .before .before .before .before .before .before .before .before .model .given .1, c .number .ensures, c .before .by-fields2 .ensures, c .before .before .by-registers .ensures)
+    let e = rw (c .before .before .before .before .before .by-fields2 .ensures) at (c .before .before .before .before .step-in-place .ensures .0) in
+    rw (sym (c .before .before .before .before .before .before .before .before .before .before .before .selected .ensures) ∙ c .before .before .before .before .before .before .before .before .before .model .given .1, c .number .ensures, c .before .by-fields3 .ensures, c .before .before .by-registers2 .ensures)
     (ap lentStepOf e)
 
 pub step-by-parts-spec : {M : Type 1} → statement M
@@ -20,6 +21,7 @@ step-by-parts-spec =
     (λ c κs. search needs)
     (λ c. search needs)
     (λ c. search needs)
+    (λ c κs. search needs)
     (λ c κs. search needs)
     returns
     (λ c κs. search needs)
