@@ -1,44 +1,45 @@
--- The 32 rows of the manual's table: decimal and binary outcomes by computed tests, and the row of a difference by arithmetic.
+-- The rows of the maker's table: decimal and binary outcomes by computed tests, and the row of a difference by arithmetic.
 -- Assumes nothing.
 use mathlib.Core.Path.{_≡_, refl}
-use mathlib.Core.List.{List, [], _∷_, _++_}
+use mathlib.Core.List.{List, [], _∷_}
 use mathlib.Core.Bool.{Bool, true, false}
-use Prim.Native.Nat.{ℕ, _+_, _-_, _%_, _<_, _≤_}
+use Prim.Native.Nat.{ℕ, zero, suc, _+_, _-_, _/_, _%_, _<_, _≤_}
 use native.Mathlib.Omega.{arith}
 use borrow.Author.Tests.{lt-ltb, le-ltb, leb-true, leb-false}
-use lib.Dec.{ltb, leb}
+use lib.Dec.{eqb, ltb, leb}
 use lib.ListN.{getD}
 use mir.Val.{boolByte}
 use Rattle.alu.specs.Decimal.{decimalSum, decimalDifference, above19, above9, below-10}
 use Rattle.alu.specs.Difference.{differenceOf}
 use Rattle.alu.specs.Results.{nibble, binaryDifference}
 use Rattle.laws.specs.Bit.{bit}
-use Rattle.alu.specs.Rows.{rowDifference}
+use Rattle.alu.specs.Rows.{sumRows, differenceRows, rowDifference}
 use Rattle.alu.specs.declared.Outcome.{Outcome}
 use Rattle.alu.proofs.Agree.{agree}
+use Rattle.laws.proofs.Arms.{Rest, hasAny, no-key}
 use Rattle.laws.proofs.Bits.{byte-bit, byte-below}
+use Rattle.laws.proofs.Every.{every-at}
 
--- the code's two tables
-abbrev digits : List ℕ
-digits = 0 ∷ 1 ∷ 2 ∷ 3 ∷ 4 ∷ 5 ∷ 6 ∷ 7 ∷ 8 ∷ 9 ∷ []
+-- what a row says: its fifth bit is CY
+abbrev pub outcome : ℕ → Outcome
+outcome bits = record { result = bits % 16; carry = eqb (bits / 16) 1 }
 
-abbrev pub sums : List ℕ
-sums = digits ++ digits ++ above19
-
-abbrev pub differences : List ℕ
-differences = digits ++ above9 ++ below-10 ++ digits
-
--- a table's outcome: the entry, and CY above 9
-abbrev pub entry : List ℕ → ℕ → Outcome
-entry table row = record { result = getD table row 0; carry = ltb 9 row }
-
-pub decimal-sum : (row : ℕ) → row < 32 → entry sums row ≡ decimalSum row
+-- the table's rule: at each row, in the table's order, a test is computed
+pub sum-rule : (row : ℕ) → row < 32 → outcome (getD sumRows row 0) ≡ decimalSum row
 unfolding decimalSum above19
-decimal-sum = agree (entry sums) decimalSum 32 tt
+sum-rule = agree (λ (k : ℕ). outcome (getD sumRows k 0)) decimalSum 32 tt
 
-pub decimal-difference : (row : ℕ) → row < 32 → entry differences row ≡ decimalDifference (rowDifference row)
+pub difference-rule : (row : ℕ) → row < 32 → outcome (getD differenceRows row 0) ≡ decimalDifference (rowDifference row)
 unfolding decimalDifference above9 below-10 rowDifference
-decimal-difference = agree (entry differences) (λ (k : ℕ). decimalDifference (rowDifference k)) 32 tt
+difference-rule = agree (λ (k : ℕ). outcome (getD differenceRows k 0)) (λ (k : ℕ). decimalDifference (rowDifference k)) 32 tt
+
+-- a match with an arm for each row comes to no other
+abbrev keys : ℕ → List (List ℕ)
+keys zero = []
+keys (suc n) = (n ∷ []) ∷ keys n
+
+pub no-other : {A : Type 0} (row : ℕ) → row < 32 → Rest (keys 32) row → A
+no-other row h r = absurd (no-key (keys 32) row r (every-at (hasAny (keys 32)) 32 tt row h))
 
 abbrev low : ℕ → Outcome
 low row = record { result = row % 16; carry = ltb 15 row }

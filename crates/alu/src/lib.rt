@@ -5,7 +5,11 @@ ghost use Prim.Native.Nat.{_<_};
 ghost use Rattle.alu.specs.Results.{addOf, subtractOf, rotateOf, zeroOf, conditionOf};
 ghost use Rattle.alu.specs.Decimal.{decimalSum, decimalDifference};
 ghost use Rattle.alu.specs.Rows.{rowDifference};
+use crate::table::difference;
+use crate::table::sum;
 use isa::SkipOp;
+
+mod table;
 
 // A result and CY. The result has four bits, unless it is that of logic on bytes that have more.
 pub struct Outcome {
@@ -13,93 +17,15 @@ pub struct Outcome {
     pub carry: bool,
 }
 
-// The decimal results of the sums 0 to 31, in the order of source 001's table.
-const SUMS: [u8; 32] = [
-    0x0,
-    0x1,
-    0x2,
-    0x3,
-    0x4,
-    0x5,
-    0x6,
-    0x7,
-    0x8,
-    0x9,
-    0x0,
-    0x1,
-    0x2,
-    0x3,
-    0x4,
-    0x5,
-    0x6,
-    0x7,
-    0x8,
-    0x9,
-    0xE,
-    0xF,
-    0xC,
-    0xD,
-    0xE,
-    0xF,
-    0xC,
-    0xD,
-    0xA,
-    0xB,
-    0xC,
-    0xD,
-];
-
-// The decimal results of the differences 0 to 15, then -16 to -1.
-const DIFFERENCES: [u8; 32] = [
-    0x0,
-    0x1,
-    0x2,
-    0x3,
-    0x4,
-    0x5,
-    0x6,
-    0x7,
-    0x8,
-    0x9,
-    0xC,
-    0xD,
-    0xE,
-    0xF,
-    0xC,
-    0xD,
-    0xE,
-    0xF,
-    0xC,
-    0xD,
-    0xE,
-    0xF,
-    0x0,
-    0x1,
-    0x2,
-    0x3,
-    0x4,
-    0x5,
-    0x6,
-    0x7,
-    0x8,
-    0x9,
-];
-
 // The decimal correction of a row of the table: a sum, or a difference in the table's order.
 fn decimal(subtracts: bool, row: u8) -> Outcome
     requires { ⌜ row < 32 ⌝ }
     ensures { λ r. ⌜ r ≡ cond subtracts (decimalDifference (rowDifference row)) (decimalSum row) ⌝ }
 {
-    if subtracts {
-        Outcome {
-            result: DIFFERENCES[row as usize],
-            carry: 9 < row,
-        }
-    } else {
-        Outcome {
-            result: SUMS[row as usize],
-            carry: 9 < row,
-        }
+    let printed = if subtracts { difference(row) } else { sum(row) };
+    Outcome {
+        result: printed % 16,
+        carry: printed / 16 == 1,
     }
 }
 

@@ -1,16 +1,18 @@
+use mathlib.Core.Logic.{⊎-elim}
+use mathlib.Core.Path.{_∙_}
 use borrow.Author.Needs.{needs}
-use Rattle.alu.specs.Decimal.{above19, above9, below-10}
-use Rattle.alu.proofs.Rows.{decimal-sum, decimal-difference}
+use Rattle.alu.proofs.Rows.{sum-rule, difference-rule}
 use Rattle.alu.proofs.decimal.Statement.{statement}
 use Rattle.alu.proofs.decimal.Tie as tie
 
 returns : tie.Need-returns
-unfolding above9 below-10
-returns c = rw (c .if1 .taken) (decimal-difference (c .before .args .row) (c .before .pre))
-
-returns-2 : tie.Need-returns-2
-unfolding above19
-returns-2 c = rw (c .if1 .left) (decimal-sum (c .before .args .row) (c .before .pre))
+returns c =
+    let row = c .before .before .args .row in
+    let below = c .before .before .pre in
+    ⊎-elim
+    (λ w. rw (w .0 .taken, w .2 ∙ w .1 .ensures) (difference-rule row below))
+    (λ w. rw (w .0 .left, w .2 ∙ w .1 .ensures) (sum-rule row below))
+    (c .before .if1 .came)
 
 pub decimal-spec : {M : Type 1} → statement M
-decimal-spec = tie.close (tie.spec (λ c. search needs) (λ c. search needs) returns returns-2)
+decimal-spec = tie.close (tie.spec (λ c κs. search needs) (λ c κs. search needs) returns)
