@@ -79,13 +79,14 @@ fn missing_empty(model: Model, cells: &[u8; 128]) -> bool
     bits == 0
 }
 
+// The missing cells come first: with the nibbles before them the run's loop, in which this is inlined, was slower.
 pub fn in_range(model: Model, cells: &[u8; 128]) -> bool
     ensures { λ r. ⌜ r ≡ cellsInRange (chipOf model) (now (cells .entry)) ⌝ }
 {
-    if !all_nibbles(cells) {
+    if !missing_empty(model, cells) {
         return false;
     }
-    if !missing_empty(model, cells) {
+    if !all_nibbles(cells) {
         return false;
     }
     fixed_bits(model, cells)
