@@ -6,7 +6,7 @@
  * argument overlaps. Where a length is 0 its pointer may be NULL, as tested; that of a lent record may not. Whatever stands in
  * them is answered or refused. No buffer is written past its length, and none is kept.
  * The library allocates nothing. As measured, pollwezen_transcript needs at most 50,000 bytes of stack and every other entry
- * 1,300, beside what the system's linker takes at a first call of memcpy or memset. */
+ * 1,200, beside what the system's linker takes at a first call of memcpy or memset. */
 #ifndef POLLWEZEN_H
 #define POLLWEZEN_H
 

@@ -9,7 +9,7 @@
 #include <ucontext.h>
 
 /* As the header says. */
-enum { MOST = 1300, MOST_OF_TRANSCRIPT = 50000 };
+enum { MOST = 1200, MOST_OF_TRANSCRIPT = 50000 };
 
 enum { ROOM = 1 << 18, PAINT = 0xA5 };
 static _Alignas(16) unsigned char painted[ROOM];
