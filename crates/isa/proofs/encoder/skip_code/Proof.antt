@@ -5,43 +5,15 @@ use borrow.Author.Needs.{needs}
 use Rattle.isa.proofs.encoder.skip_code.Statement.{statement}
 use Rattle.isa.proofs.encoder.skip_code.Tie as tie
 
-returns : tie.Need-returns
-unfolding wordOf
-returns c = rw (c .enum-told .given .1) (refl, lit< tt)
-
-returns-2 : tie.Need-returns-2
-unfolding wordOf
-returns-2 c = rw (c .enum-told2 .given .1) (refl, lit< tt)
-
-returns-3 : tie.Need-returns-3
-unfolding wordOf
-returns-3 c = rw (c .enum-told3 .given .1) (refl, lit< tt)
-
-returns-4 : tie.Need-returns-4
-unfolding wordOf
-returns-4 c = rw (c .enum-told4 .given .1) (refl, lit< tt)
-
-returns-5 : tie.Need-returns-5
-unfolding wordOf
-returns-5 c = rw (c .enum-told5 .given .1) (refl, lit< tt)
-
-returns-6 : tie.Need-returns-6
-unfolding wordOf
-returns-6 c = rw (c .enum-told6 .given .1) (refl, lit< tt)
-
 pub skip-code-spec : {M : Type 1} → statement M
+unfolding wordOf
 skip-code-spec =
     tie.close
-    (tie.spec
+    (tie.spec (λ c. search needs) (λ c. search needs) (λ c. search needs) (λ c. search needs) (λ c. search needs)
     (λ c. search needs)
-    (λ c. search needs)
-    (λ c. search needs)
-    (λ c. search needs)
-    (λ c. search needs)
-    (λ c. search needs)
-    returns
-    returns-2
-    returns-3
-    returns-4
-    returns-5
-    returns-6)
+    (λ c. rw (c .enum-told .given .1) (refl, lit< tt))
+    (λ c. rw (c .enum-told2 .given .1) (refl, lit< tt))
+    (λ c. rw (c .enum-told3 .given .1) (refl, lit< tt))
+    (λ c. rw (c .enum-told4 .given .1) (refl, lit< tt))
+    (λ c. rw (c .enum-told5 .given .1) (refl, lit< tt))
+    (λ c. rw (c .enum-told6 .given .1) (refl, lit< tt)))
