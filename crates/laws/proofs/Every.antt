@@ -2,12 +2,13 @@
 -- Assumes nothing.
 use mathlib.Core.Path.{_≡_, _∙_, ap, subst, sym}
 use mathlib.Core.Logic.{⊎-elim}
-use mathlib.Core.Bool.{Bool, true, false, _&&_, cond}
+use mathlib.Core.Bool.{Bool, true, false, _&&_, cond, false≢true}
 use Prim.Native.Nat.{ℕ, zero, suc, _+_, _<_}
 use native.Mathlib.Nat.{add-zero, eq-or-lt-of-le, le-of-suc-le-suc, le-refl, le-step, not-suc-le-zero}
 use native.Mathlib.Numerals.{add-one}
 use lib.Dec.{T, eqb, eqb·suc-zero}
 use Rattle.laws.specs.Every.{every}
+use Rattle.laws.proofs.Booleans.{not-passed}
 
 pub and-left : (a b : Bool) → T (a && b) → T a
 and-left true b t = tt
@@ -42,3 +43,8 @@ holds {b} t = go b t
     go : (x : Bool) → T x → x ≡ true
     go true u = λ _. true
     go false u = absurd u
+
+-- it fails where the test fails at one of them
+pub every-not : (f : ℕ → Bool) (n k : ℕ) → k < n → f k ≡ false → every f n ≡ false
+every-not f n k h e =
+    not-passed (every f n) (λ p. false≢true (sym e ∙ holds (every-at f n (passed p) k h)))
