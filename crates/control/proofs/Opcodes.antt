@@ -10,7 +10,7 @@ use types.Run.{hit}
 use lib.Dec.{T, leb, leb→le, ltb, ltb→lt}
 use lib.ListN.{getD}
 use Rattle.laws.specs.Every.{every}
-use Rattle.laws.proofs.Arms.{Rest, hasAny, or-else, no-key, in-arm, in-rest}
+use Rattle.laws.proofs.Arms.{Rest, singly, hasAny, or-else, no-key, in-arm, in-rest}
 use Rattle.laws.proofs.Every.{every-at}
 use Rattle.isa.specs.Answers.{Decoding}
 use Rattle.isa.specs.Decode.{columns, rows, groupOf, entryOf, overview}
@@ -32,25 +32,17 @@ groupFlow x m = decodedFlow (groupOf m x)
 
 -- the arms of opcode 7, the last one first: the columns, then those of any low nibble, then those of 0
 abbrev columnKeys : List (List ℕ)
-columnKeys = (0b1011 ∷ []) ∷ (0b1010 ∷ []) ∷ (0b0011 ∷ []) ∷ (0b0010 ∷ []) ∷ []
+columnKeys = singly (0b1011 ∷ 0b1010 ∷ 0b0011 ∷ 0b0010 ∷ [])
 
 abbrev operandKeys : List (List ℕ)
-operandKeys = (0b011_1111 ∷ []) ∷ (0b010_1111 ∷ []) ∷ (0b000_0111 ∷ []) ∷ []
+operandKeys = singly (0b011_1111 ∷ 0b010_1111 ∷ 0b000_0111 ∷ [])
 
 abbrev fixedKeys : List (List ℕ)
 fixedKeys =
     (0b100_1111 ∷ [])
     ∷ (0b000_1111 ∷ 0b001_1111 ∷ 0b100_1110 ∷ [])
-    ∷ (0b001_1110 ∷ [])
-    ∷ (0b000_1110 ∷ [])
-    ∷ (0b000_1101 ∷ [])
-    ∷ (0b000_1100 ∷ [])
-    ∷ (0b000_1001 ∷ [])
-    ∷ (0b000_1000 ∷ [])
-    ∷ (0b000_0101 ∷ [])
-    ∷ (0b000_0100 ∷ [])
-    ∷ (0b000_0001 ∷ [])
-    ∷ []
+    ∷ singly
+    (0b001_1110 ∷ 0b000_1110 ∷ 0b000_1101 ∷ 0b000_1100 ∷ 0b000_1001 ∷ 0b000_1000 ∷ 0b000_0101 ∷ 0b000_0100 ∷ 0b000_0001 ∷ [])
 
 module _ (m : ℕ) (small : m < 128) (rc : Rest columnKeys (m % 16)) (ro : Rest operandKeys m) where
   -- a test that passes wherever no arm so far takes the row and column

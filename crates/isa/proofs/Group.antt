@@ -6,7 +6,7 @@ use mathlib.Core.Bool.{Bool, _||_}
 use mathlib.Core.Logic.{inl, inr}
 use Prim.Native.Nat.{ℕ, _+_, _*_, _/_, _%_, _<_, _≤_}
 use native.Mathlib.Omega.{arith}
-use Rattle.laws.proofs.Arms.{Span, Rest, AllOutside, hasAny, or-else, no-key, in-rest}
+use Rattle.laws.proofs.Arms.{Span, Rest, AllOutside, singly, hasAny, or-else, no-key, in-rest}
 use Rattle.isa.proofs.None.{isNone, is-none}
 use Rattle.isa.specs.Decode.{columns, groupOf, none}
 
@@ -28,30 +28,23 @@ sub-column w = omega arith
 sub-below : (w : ℕ) → w % 2048 < 2048
 sub-below w = omega arith
 
+-- the entry of a sub-word
+pub at-sub : (w k : ℕ) → w % 2048 ≡ k → groupOf (k / 16) (k % 16) ≡ groupOf (w / 16 % 128) (w % 16)
+at-sub w k e = rw (sub-m w, sub-x w, e)
+
 -- the sixteen sub-words of a row and a column
 pub sixteen : (m w : ℕ) → m * 16 ≤ w % 2048 → w % 2048 < (m + 1) * 16 → w / 16 % 128 ≡ m
 sixteen m w a b = omega arith
 
 -- the decoder's arms, the last one first: columns, sub-words, and RORC, STOP and HALT
 abbrev pub columnKeys : List (List ℕ)
-columnKeys = (0b1011 ∷ []) ∷ (0b1010 ∷ []) ∷ (0b0011 ∷ []) ∷ (0b0010 ∷ []) ∷ []
+columnKeys = singly (0b1011 ∷ 0b1010 ∷ 0b0011 ∷ 0b0010 ∷ [])
 
 abbrev pub subKeys : List (List ℕ)
 subKeys =
-    (0b100_1111_0000 ∷ [])
-    ∷ (0b001_1111_0000 ∷ [])
-    ∷ (0b000_1111_0000 ∷ [])
-    ∷ (0b100_1110_0000 ∷ [])
-    ∷ (0b001_1110_0000 ∷ [])
-    ∷ (0b000_1110_0000 ∷ [])
-    ∷ (0b000_1101_0000 ∷ [])
-    ∷ (0b000_1100_0000 ∷ [])
-    ∷ (0b000_1001_0000 ∷ [])
-    ∷ (0b000_1000_0000 ∷ [])
-    ∷ (0b000_0101_0000 ∷ [])
-    ∷ (0b000_0100_0000 ∷ [])
-    ∷ (0b000_0001_0000 ∷ [])
-    ∷ []
+    singly
+    (0b100_1111_0000 ∷ 0b001_1111_0000 ∷ 0b000_1111_0000 ∷ 0b100_1110_0000 ∷ 0b001_1110_0000 ∷ 0b000_1110_0000 ∷ 0b000_1101_0000
+    ∷ 0b000_1100_0000 ∷ 0b000_1001_0000 ∷ 0b000_1000_0000 ∷ 0b000_0101_0000 ∷ 0b000_0100_0000 ∷ 0b000_0001_0000 ∷ [])
 
 abbrev pub spans : List Span
 spans =

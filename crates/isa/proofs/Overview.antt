@@ -4,7 +4,7 @@ use mathlib.Core.Path.{_≡_, refl}
 use mathlib.Core.List.{List, [], _∷_}
 use Prim.Native.Nat.{ℕ, _+_, _-_, _/_, _<_}
 use native.Mathlib.Omega.{arith}
-use Rattle.laws.proofs.Arms.{Rest, in-rest}
+use Rattle.laws.proofs.Arms.{Rest, singly, in-rest}
 use Rattle.isa.proofs.None.{isNone, is-none}
 use Rattle.isa.specs.Answers.{is}
 use Rattle.isa.specs.Decode.{entryOf, overview, none}
@@ -40,35 +40,9 @@ module _ (m x addr : ℕ) where
 -- the decoder's arms, the last one first
 abbrev pub keys : List (List ℕ)
 keys =
-    (31 ∷ [])
-    ∷ (30 ∷ [])
-    ∷ (29 ∷ [])
-    ∷ (28 ∷ [])
-    ∷ (27 ∷ [])
-    ∷ (26 ∷ [])
-    ∷ (25 ∷ [])
-    ∷ (24 ∷ [])
-    ∷ (22 ∷ [])
-    ∷ (21 ∷ [])
-    ∷ (20 ∷ [])
-    ∷ (19 ∷ [])
-    ∷ (18 ∷ [])
-    ∷ (17 ∷ [])
-    ∷ (16 ∷ [])
-    ∷ (12 ∷ [])
-    ∷ (11 ∷ [])
-    ∷ (10 ∷ [])
-    ∷ (9 ∷ [])
-    ∷ (8 ∷ [])
-    ∷ (7 ∷ [])
-    ∷ (6 ∷ [])
-    ∷ (5 ∷ [])
-    ∷ (4 ∷ [])
-    ∷ (3 ∷ [])
-    ∷ (2 ∷ [])
-    ∷ (1 ∷ [])
-    ∷ (0 ∷ [])
-    ∷ []
+    singly
+    (31 ∷ 30 ∷ 29 ∷ 28 ∷ 27 ∷ 26 ∷ 25 ∷ 24 ∷ 22 ∷ 21 ∷ 20 ∷ 19 ∷ 18 ∷ 17 ∷ 16
+    ∷ 12 ∷ 11 ∷ 10 ∷ 9 ∷ 8 ∷ 7 ∷ 6 ∷ 5 ∷ 4 ∷ 3 ∷ 2 ∷ 1 ∷ 0 ∷ [])
 
 -- what no arm takes is no instruction: tested at each of the 32 opcodes
 pub unlisted : (m x addr n : ℕ) → n < 32 → Rest keys n → none ≡ entryOf n m x addr

@@ -31,6 +31,10 @@ abbrev pub Rest : List (List ℕ) → ℕ → Type 0
 Rest [] x = Unit
 Rest (ks ∷ kss) x = Rest kss x × (OneOf ks x → ⊥)
 
+-- arms of one key each
+abbrev pub singly : List ℕ → List (List ℕ)
+singly ks = map (λ (k : ℕ). k ∷ []) ks
+
 abbrev pub hasAny : List (List ℕ) → ℕ → Bool
 hasAny [] x = false
 hasAny (ks ∷ kss) x = hasKey ks x || hasAny kss x

@@ -9,7 +9,7 @@ use lib.Bits.{bitAnd}
 use lib.Dec.{eqb, eqb→eq}
 use lib.ListN.{length}
 use lib.Seq.{set-out}
-use Rattle.laws.proofs.Arms.{Rest, in-rest}
+use Rattle.laws.proofs.Arms.{Rest, singly, in-rest}
 use Rattle.laws.proofs.Lists.{getD-past}
 use Rattle.peripherals.specs.Registers.{placeOf, peekOf, pokeOf}
 use Rattle.peripherals.specs.Table.{controlRegisters, staysAt, TM}
@@ -17,8 +17,7 @@ use Rattle.peripherals.specs.declared.Peripherals.{Peripherals}
 
 -- the arms of `place`, the last one first
 abbrev keys : List (List ℕ)
-keys =
-    (0x35 ∷ []) ∷ (0x34 ∷ []) ∷ (0x33 ∷ []) ∷ (0x32 ∷ []) ∷ (0x24 ∷ []) ∷ (0x12 ∷ []) ∷ (0x11 ∷ []) ∷ []
+keys = singly (0x35 ∷ 0x34 ∷ 0x33 ∷ 0x32 ∷ 0x24 ∷ 0x12 ∷ 0x11 ∷ [])
 
 pub no-register : (rf : ℕ) → rf < 256 → Rest keys rf → 7 ≡ placeOf rf
 unfolding controlRegisters
