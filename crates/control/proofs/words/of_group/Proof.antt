@@ -28,10 +28,6 @@ returns-5 : tie.Need-returns-5
 unfolding columns
 returns-5 c = rw (c .before .match .keys4, c .onward-if4 .ensures)
 
-returns-6 : tie.Need-returns-6
-unfolding columns
-returns-6 c = rw (c .match2 .keys1)
-
 returns-7 : tie.Need-returns-7
 unfolding columns
 returns-7 c = rw (c .match2 .keys2)
@@ -39,38 +35,6 @@ returns-7 c = rw (c .match2 .keys2)
 returns-8 : tie.Need-returns-8
 unfolding columns
 returns-8 c = rw (c .match2 .keys3)
-
-returns-9 : tie.Need-returns-9
-unfolding columns
-returns-9 c = rw (c .before .if1 .left, c .match3 .keys1)
-
-returns-10 : tie.Need-returns-10
-unfolding columns
-returns-10 c = rw (c .before .if1 .left, c .match3 .keys2)
-
-returns-11 : tie.Need-returns-11
-unfolding columns
-returns-11 c = rw (c .before .if1 .left, c .match3 .keys3)
-
-returns-12 : tie.Need-returns-12
-unfolding columns
-returns-12 c = rw (c .before .if1 .left, c .match3 .keys4)
-
-returns-13 : tie.Need-returns-13
-unfolding columns
-returns-13 c = rw (c .before .if1 .left, c .match3 .keys5)
-
-returns-14 : tie.Need-returns-14
-unfolding columns
-returns-14 c = rw (c .before .if1 .left, c .match3 .keys6)
-
-returns-15 : tie.Need-returns-15
-unfolding columns
-returns-15 c = rw (c .before .if1 .left, c .match3 .keys7)
-
-returns-16 : tie.Need-returns-16
-unfolding columns
-returns-16 c = rw (c .before .if1 .left, c .match3 .keys8)
 
 returns-17 : tie.Need-returns-17
 unfolding columns
@@ -80,45 +44,28 @@ returns-18 : tie.Need-returns-18
 unfolding columns
 returns-18 c = rw (c .before .if1 .left) (in-arm (groupFlow 0) unsupported (0b000_1111 ∷ 0b001_1111 ∷ 0b100_1110 ∷ []) refl _ (c .match3 .keys10))
 
-returns-19 : tie.Need-returns-19
-unfolding columns
-returns-19 c = rw (c .before .if1 .left, c .match3 .keys11)
-
 returns-20 : tie.Need-returns-20
 returns-20 c =
     rw (c .before .if1 .left)
     (other-fixed _ (search needs) (c .before .before .before .match .rest) (c .before .before .match2 .rest) (c .match3 .rest))
 
 pub of-group-spec : {M : Type 1} → statement M
+unfolding columns
 of-group-spec =
     tie.close
-    (tie.spec
-    (λ c. search needs)
-    (λ c. search needs)
-    (λ c. search needs)
-    (λ c κs. search needs)
-    (λ c κs. search needs)
-    (λ c κs. search needs)
-    (λ c κs. search needs)
-    (λ c κs. search needs)
-    (λ c κs. search needs)
-    returns
-    returns-2
-    returns-3
-    returns-4
-    returns-5
-    returns-6
-    returns-7
-    returns-8
-    returns-9
-    returns-10
-    returns-11
-    returns-12
-    returns-13
-    returns-14
-    returns-15
-    returns-16
-    returns-17
-    returns-18
-    returns-19
+    (tie.spec (λ c. search needs) (λ c. search needs) (λ c. search needs) (λ c κs. search needs) (λ c κs. search needs)
+    (λ c κs. search needs) (λ c κs. search needs) (λ c κs. search needs) (λ c κs. search needs) returns returns-2 returns-3
+    returns-4 returns-5
+    (λ c. rw (c .match2 .keys1))
+    returns-7 returns-8
+    (λ c. rw (c .before .if1 .left, c .match3 .keys1))
+    (λ c. rw (c .before .if1 .left, c .match3 .keys2))
+    (λ c. rw (c .before .if1 .left, c .match3 .keys3))
+    (λ c. rw (c .before .if1 .left, c .match3 .keys4))
+    (λ c. rw (c .before .if1 .left, c .match3 .keys5))
+    (λ c. rw (c .before .if1 .left, c .match3 .keys6))
+    (λ c. rw (c .before .if1 .left, c .match3 .keys7))
+    (λ c. rw (c .before .if1 .left, c .match3 .keys8))
+    returns-17 returns-18
+    (λ c. rw (c .before .if1 .left, c .match3 .keys11))
     returns-20)

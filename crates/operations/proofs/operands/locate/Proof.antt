@@ -47,105 +47,25 @@ returns-11 : tie.Need-returns-11
 unfolding addressesOf addressIn
 returns-11 c = rw (c .before .before .before .instruction11 .given .1, c .both9 .ensures, c .before .file2 .ensures)
 
-returns-12 : tie.Need-returns-12
-unfolding addressesOf addressIn
-returns-12 c = rw (c .before .enum-told .given .1, c .no-operands .ensures)
-
-returns-13 : tie.Need-returns-13
-unfolding addressesOf addressIn
-returns-13 c = rw (c .before .enum-told2 .given .1, c .no-operands2 .ensures)
-
-returns-14 : tie.Need-returns-14
-unfolding addressesOf addressIn
-returns-14 c = rw (c .before .enum-told3 .given .1, c .no-operands3 .ensures)
-
-returns-15 : tie.Need-returns-15
-unfolding addressesOf addressIn
-returns-15 c = rw (c .before .enum-told4 .given .1, c .no-operands4 .ensures)
-
-returns-16 : tie.Need-returns-16
-unfolding addressesOf addressIn
-returns-16 c = rw (c .before .enum-told5 .given .1, c .no-operands5 .ensures)
-
-returns-17 : tie.Need-returns-17
-unfolding addressesOf addressIn
-returns-17 c = rw (c .before .enum-told6 .given .1, c .no-operands6 .ensures)
-
-returns-18 : tie.Need-returns-18
-unfolding addressesOf addressIn
-returns-18 c = rw (c .before .enum-told7 .given .1, c .no-operands7 .ensures)
-
 pub locate-spec : {M : Type 1} → statement M
+unfolding addressesOf addressIn
 locate-spec =
     tie.close
-    (tie.spec
-    (λ c. search needs)
-    (λ c κs. search needs)
-    (λ c κs. search needs)
-    (λ c κs. search needs)
-    (λ c. search needs)
-    (λ c κs. search needs)
-    (λ c κs. search needs)
-    (λ c. search needs)
-    (λ c κs. search needs)
-    (λ c κs. search needs)
-    (λ c. search needs)
-    (λ c κs. search needs)
-    (λ c κs. search needs)
-    (λ c. search needs)
-    (λ c κs. search needs)
-    (λ c κs. search needs)
-    (λ c κs. search needs)
-    (λ c. search needs)
-    (λ c κs. search needs)
-    (λ c κs. search needs)
-    (λ c κs. search needs)
-    (λ c. search needs)
-    (λ c κs. search needs)
-    (λ c κs. search needs)
-    (λ c κs. search needs)
-    (λ c. search needs)
-    (λ c κs. search needs)
-    (λ c κs. search needs)
-    (λ c κs. search needs)
-    (λ c. search needs)
-    (λ c κs. search needs)
-    (λ c κs. search needs)
-    (λ c. search needs)
-    (λ c κs. search needs)
-    (λ c κs. search needs)
-    (λ c. search needs)
-    (λ c κs. search needs)
-    (λ c κs. search needs)
-    (λ c. search needs)
-    (λ c κs. search needs)
-    (λ c. search needs)
-    (λ c κs. search needs)
-    (λ c. search needs)
-    (λ c κs. search needs)
-    (λ c. search needs)
-    (λ c κs. search needs)
-    (λ c. search needs)
-    (λ c κs. search needs)
-    (λ c. search needs)
-    (λ c κs. search needs)
-    (λ c. search needs)
-    (λ c κs. search needs)
-    returns
-    returns-2
-    returns-3
-    returns-4
-    returns-5
-    returns-6
-    returns-7
-    returns-8
-    returns-9
-    returns-10
-    returns-11
-    returns-12
-    returns-13
-    returns-14
-    returns-15
-    returns-16
-    returns-17
-    returns-18)
+    (tie.spec (λ c. search needs) (λ c κs. search needs) (λ c κs. search needs) (λ c κs. search needs) (λ c. search needs)
+    (λ c κs. search needs) (λ c κs. search needs) (λ c. search needs) (λ c κs. search needs) (λ c κs. search needs)
+    (λ c. search needs) (λ c κs. search needs) (λ c κs. search needs) (λ c. search needs) (λ c κs. search needs)
+    (λ c κs. search needs) (λ c κs. search needs) (λ c. search needs) (λ c κs. search needs) (λ c κs. search needs)
+    (λ c κs. search needs) (λ c. search needs) (λ c κs. search needs) (λ c κs. search needs) (λ c κs. search needs)
+    (λ c. search needs) (λ c κs. search needs) (λ c κs. search needs) (λ c κs. search needs) (λ c. search needs)
+    (λ c κs. search needs) (λ c κs. search needs) (λ c. search needs) (λ c κs. search needs) (λ c κs. search needs)
+    (λ c. search needs) (λ c κs. search needs) (λ c κs. search needs) (λ c. search needs) (λ c κs. search needs) (λ c. search needs)
+    (λ c κs. search needs) (λ c. search needs) (λ c κs. search needs) (λ c. search needs) (λ c κs. search needs) (λ c. search needs)
+    (λ c κs. search needs) (λ c. search needs) (λ c κs. search needs) (λ c. search needs) (λ c κs. search needs) returns returns-2
+    returns-3 returns-4 returns-5 returns-6 returns-7 returns-8 returns-9 returns-10 returns-11
+    (λ c. rw (c .before .enum-told .given .1, c .no-operands .ensures))
+    (λ c. rw (c .before .enum-told2 .given .1, c .no-operands2 .ensures))
+    (λ c. rw (c .before .enum-told3 .given .1, c .no-operands3 .ensures))
+    (λ c. rw (c .before .enum-told4 .given .1, c .no-operands4 .ensures))
+    (λ c. rw (c .before .enum-told5 .given .1, c .no-operands5 .ensures))
+    (λ c. rw (c .before .enum-told6 .given .1, c .no-operands6 .ensures))
+    (λ c. rw (c .before .enum-told7 .given .1, c .no-operands7 .ensures)))
