@@ -19,9 +19,10 @@ use Rattle.peripherals.specs.declared.Peripherals.{Peripherals}
 use Rattle.machine.specs.declared.Machine.{Machine}
 use Rattle.machine.specs.declared.Refusal.{Refusal}
 use Rattle.machine.specs.declared.Refusal.the-variants.{OutOfRange, PastRom, NoInstruction, Unsupported, NoRegister, BadTarget, StackFull, StackEmpty, PastTable, MissingCell}
-use Rattle.control.specs.Control.{Transfer, goes, refusedControl, topOf}
+use Rattle.control.specs.Control.{Transfer, controlOf, goes, onwardOf, refusedControl, topOf}
 use Rattle.control.specs.Flow.{flowOf}
 use Rattle.control.specs.Transfers.{transferOf, withStack}
+use Rattle.control.specs.declared.Flow.the-variants.{Onward}
 use Rattle.control.specs.declared.Regs.{Regs}
 use Rattle.control.specs.declared.Transfer as code
 use Rattle.control.specs.declared.Transfer.the-variants.{To, Refused}
@@ -34,6 +35,7 @@ use Rattle.operations.specs.declared.Addresses.{Addresses}
 use Rattle.cpu.specs.Execute.{executeOf, writtenOf, lacksOf, transferBy, pastTable, dataOf, sourcesOf}
 use Rattle.cpu.specs.Joined.{executedOf, wholeOf}
 use Rattle.cpu.specs.Reply.{completedStep, refusedStep}
+use Rattle.cpu.proofs.Lacking.{lacks}
 
 pub number-not-0 : (r : Refusal) → eqb (numberOf r) 0 ≡ false
 number-not-0 OutOfRange = refl
@@ -102,3 +104,19 @@ module _ (chip : Chip) (rom : List ℕ) (signals : Signals) (cells stack : List 
       → lacksOf chip rom signals i before ≡ false → cells ≡ writtenOf chip rom signals i before → executedOf cells left (settingsOf cells p i) p regs q ≡ executeOf chip rom signals i before
   moves (To r) left e t l h = completes cells left r e t l h
   moves (Refused q) left e t l h = refuses q left e
+
+  -- an instruction with operands, at the addresses that were found, by whether the chip lacks a cell there
+  module _ (a : Addresses) (found : a ≡ addressesOf chip (dataOf before signals) i) (b : Bool) (tested : b ≡ lacksAt chip a) where
+    pub lacked : b ≡ true → (q : code.Transfer) → q ≡ Refused MissingCell
+        → executedOf cells stack (settingsOf cells p i) p regs q ≡ executeOf chip rom signals i before
+    lacked l q e = rw e (lacks chip rom signals before i (lacking a found (sym tested ∙ l)))
+
+    -- it goes on to the next word
+    pub carried : b ≡ false → (k : Instruction) → i ≡ k → flowOf k ≡ Onward → (after : List ℕ) (r : Regs)
+        → goes (withStack stack r) ≡ onwardOf chip false (withStack stack regs)
+        → after ≡ writesApplied chip cells (writesAt chip (dataOf before signals) a k (sourcesOf rom before))
+        → executedOf after stack (settingsOf cells p i) p regs (To r) ≡ executeOf chip rom signals i before
+    unfolding transferBy controlOf pastTable
+    carried l k e f after r g h =
+        let onto : flowOf i ≡ Onward = ap flowOf e ∙ f in
+        completes after stack r (rw onto g) (rw onto) (lacking a found (sym tested ∙ l)) (written a found after (rw e h))
