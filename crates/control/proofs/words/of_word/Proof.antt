@@ -44,13 +44,4 @@ returns-8 c = other-opcode _ _ _ _ (op-below _ (c .before .before .fits .word .f
 pub of-word-spec : {M : Type 1} → statement M
 of-word-spec =
     tie.close
-    (tie.spec
-    returns
-    (λ c κs. search needs)
-    returns-2
-    returns-3
-    returns-4
-    returns-5
-    returns-6
-    returns-7
-    returns-8)
+    (tie.spec returns (λ c κs. search needs) returns-2 returns-3 returns-4 returns-5 returns-6 returns-7 returns-8)

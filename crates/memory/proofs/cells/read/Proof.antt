@@ -33,28 +33,7 @@ returns-8 c = c .port5 .ensures ∙ is-port _ _ _ _ _ 0 (omega arith) (lit≤ tt
 pub read-spec : {M : Type 1} → statement M
 read-spec =
     tie.close
-    (tie.spec
-    returns
-    (λ c. search needs)
-    returns-2
-    returns-3
-    (λ c. search needs)
-    (λ c. search needs)
-    (λ c κs. search needs)
-    returns-4
-    (λ c. search needs)
-    (λ c. search needs)
-    (λ c κs. search needs)
-    returns-5
-    (λ c. search needs)
-    (λ c. search needs)
-    (λ c κs. search needs)
-    returns-6
-    (λ c. search needs)
-    (λ c. search needs)
-    (λ c κs. search needs)
-    returns-7
-    (λ c. search needs)
-    (λ c. search needs)
-    (λ c κs. search needs)
-    returns-8)
+    (tie.spec returns (λ c. search needs) returns-2 returns-3 (λ c. search needs) (λ c. search needs) (λ c κs. search needs)
+    returns-4 (λ c. search needs) (λ c. search needs) (λ c κs. search needs) returns-5 (λ c. search needs) (λ c. search needs)
+    (λ c κs. search needs) returns-6 (λ c. search needs) (λ c. search needs) (λ c κs. search needs) returns-7 (λ c. search needs)
+    (λ c. search needs) (λ c κs. search needs) returns-8)

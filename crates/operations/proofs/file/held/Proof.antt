@@ -15,8 +15,4 @@ returns-2 c = rw (lt-leb _ _ (c .before .before .if1 .left), c .peek .ensures)
 pub held-spec : {M : Type 1} → statement M
 held-spec =
     tie.close
-    (tie.spec
-    (λ c κs. search needs)
-    returns
-    (λ c κs. search needs)
-    returns-2)
+    (tie.spec (λ c κs. search needs) returns (λ c κs. search needs) returns-2)

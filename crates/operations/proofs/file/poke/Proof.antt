@@ -16,8 +16,4 @@ returns-2 c = rw (le-leb _ _ (c .before .before .before .before .if1 .left), c .
 pub poke-spec : {M : Type 1} → statement M
 poke-spec =
     tie.close
-    (tie.spec
-    returns
-    (λ c κs. search needs)
-    (λ c κs. search needs)
-    returns-2)
+    (tie.spec returns (λ c κs. search needs) (λ c κs. search needs) returns-2)

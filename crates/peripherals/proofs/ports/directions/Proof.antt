@@ -10,10 +10,4 @@ returns c = rw (c .before .group .ensures, c .with-timer .ensures)
 pub directions-spec : {M : Type 1} → statement M
 directions-spec =
     tie.close
-    (tie.spec
-    (λ c κs. search needs)
-    (λ c κs. search needs)
-    (λ c. search needs)
-    (λ c. search needs)
-    (λ c. search needs)
-    returns)
+    (tie.spec (λ c κs. search needs) (λ c κs. search needs) (λ c. search needs) (λ c. search needs) (λ c. search needs) returns)

@@ -20,10 +20,4 @@ returns-2 c = rw (c .cleared .ensures, c .before .mask .ensures, c .before .befo
 pub poked-spec : {M : Type 1} → statement M
 poked-spec =
     tie.close
-    (tie.spec
-    (λ c κs. search needs)
-    returns
-    (λ c κs. search needs)
-    (λ c. search needs)
-    (λ c κs. search needs)
-    returns-2)
+    (tie.spec (λ c κs. search needs) returns (λ c κs. search needs) (λ c. search needs) (λ c κs. search needs) returns-2)
