@@ -11,7 +11,9 @@ use machine::Machine;
 use machine::Refusal;
 use peripherals::Peripherals;
 use peripherals::Timer;
+pub use running::end_of;
 pub use running::run;
+pub use running::run_in_place;
 pub use running::step;
 pub use running::step_in_place;
 

@@ -33,7 +33,7 @@ use peripherals::pace;
 use peripherals::timer_of;
 
 // How a run ends, by the answer that it stopped with.
-fn end_of(answer: Answer) -> End
+pub fn end_of(answer: Answer) -> End
     ensures { λ r. ⌜ endOf r ≡ refusalOf (replyOf answer) ⌝ }
 {
     match answer {
@@ -183,6 +183,22 @@ pub fn run(model: Model, rom: &[u16], machine: Machine, input: Input, pulse: u8,
         count: count,
         end: end_of(answer),
     }
+}
+
+// The counted run on the cells where they stand.
+pub fn run_in_place(
+    model: Model,
+    rom: &[u16],
+    cells: &mut [u8; 128],
+    peripherals: Peripherals,
+    control: Control,
+    input: Input,
+    pulse: u8,
+    limit: u32,
+) -> Reached
+    ensures { λ r. ⌜ ended (r .count) (refusalOf (replyOf (r .answer))) (machineOf (now (cells .exit)) (r .peripherals) (r .control)) ≡ runOf (chipOf model) (now (rom .entry)) (signals input pulse) limit (machineOf (now (cells .entry)) peripherals control) ⌝ }
+{
+    go(model, rom, cells, peripherals, control, input, pulse, limit)
 }
 
 // One step: the run of one, with its answer.

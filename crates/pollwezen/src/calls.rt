@@ -1,19 +1,19 @@
-// Reset, the step by parts and the run by value, with the numbers of the models and those that the entries answer.
+// Reset by value, the step and the run on cells where they stand, with the numbers of the models and those that the entries answer.
 ghost use mathlib.Core.Path.{_≡_};
+ghost use Rattle.machine.specs.Parts.{machineOf};
 ghost use Rattle.machine.specs.Signals.{signals};
 ghost use Rattle.cpu.specs.Cost.{none};
-ghost use Rattle.cpu.specs.Run.{ended};
-ghost use Rattle.pollwezen.specs.Lent.{lentRunOf, lentStepOf};
+ghost use Rattle.pollwezen.specs.Lent.{lentRun, lentRunOf, lentStep, lentStepOf};
 ghost use Rattle.pollwezen.specs.Models.{modelOf, resetOn, runOn, stepOn};
-use crate::LentRun;
 use crate::LentStep;
+use crate::RunLeft;
 use crate::RunReply;
 use crate::Selected;
+use crate::StepLeft;
 use cpu::Count;
 use machine::Control;
 use machine::Input;
 use machine::Machine;
-use memory::Memory;
 use memory::Model;
 use peripherals::Peripherals;
 
@@ -86,91 +86,76 @@ pub(crate) fn reset_by_value(number: u8, machine: Machine) -> LentStep
     left(Machine::reset(), 0)
 }
 
-pub(crate) fn step_by_parts(
+// A step on the cells where they stand, with the rest of the record by value.
+pub(crate) fn step_on_cells(
     number: u8,
     rom: &[u16],
-    memory: Memory,
+    cells: &mut [u8; 128],
     peripherals: Peripherals,
     control: Control,
     input: Input,
     pulse: u8,
-) -> LentStep
-    ensures { λ r. ⌜ r ≡ lentStepOf (stepOn (modelOf number) (now (rom .entry)) (signals input pulse) (record { memory = memory; peripherals = peripherals; control = control })) ⌝ }
+) -> StepLeft
+    ensures { λ r. ⌜ lentStep (machineOf (now (cells .exit)) (r .peripherals) (r .control)) (r .number) ≡ lentStepOf (stepOn (modelOf number) (now (rom .entry)) (signals input pulse) (machineOf (now (cells .entry)) peripherals control)) ⌝ }
 {
     let Selected::Model(model) = selected(number) else {
-        return LentStep {
-            machine: Machine {
-                memory: memory,
-                peripherals: by_registers(peripherals),
-                control: by_fields(control),
-            },
+        return StepLeft {
+            peripherals: by_registers(peripherals),
+            control: by_fields(control),
             number: 1,
         };
     };
-    let mut cells = memory.cells;
-    let s = cpu::step_in_place(
-        model,
-        rom,
-        &mut cells,
-        peripherals,
-        by_fields(control),
-        input,
-        pulse,
-    );
+    let part = by_fields(control);
+    let s = cpu::step_in_place(model, rom, cells, peripherals, part, input, pulse);
     let answer = s.answer;
-    let after = s.peripherals;
-    LentStep {
-        machine: Machine {
-            memory: Memory { cells: cells },
-            peripherals: by_registers(after),
-            control: by_fields(s.control),
-        },
+    StepLeft {
+        peripherals: by_registers(s.peripherals),
+        control: by_fields(s.control),
         number: answer.number(),
     }
 }
 
-// A run that was not begun: the number is no model's.
-fn not_run(machine: Machine) -> LentRun
-    ensures { λ r. ⌜ r ≡ lentRunOf (ended none 1 machine) ⌝ }
+// The reply of a run that was not begun: the number is no model's.
+fn not_run() -> RunReply
+    ensures { λ r. ⌜ r ≡ record { count = none; number = 1 } ⌝ }
 {
-    LentRun {
-        machine: machine,
-        reply: RunReply {
-            count: Count {
-                steps: 0,
-                cycles: 0,
-            },
-            number: 1,
+    RunReply {
+        count: Count {
+            steps: 0,
+            cycles: 0,
         },
+        number: 1,
     }
 }
 
-pub(crate) fn run_by_value(
+// A run on the cells where they stand, with the rest of the record by value.
+pub(crate) fn run_on_cells(
     number: u8,
     rom: &[u16],
-    machine: Machine,
+    cells: &mut [u8; 128],
+    peripherals: Peripherals,
+    control: Control,
     input: Input,
     pulse: u8,
     budget: u32,
-) -> LentRun
-    ensures { λ r. ⌜ r ≡ lentRunOf (runOn (modelOf number) (now (rom .entry)) (signals input pulse) budget machine) ⌝ }
+) -> RunLeft
+    ensures { λ r. ⌜ lentRun (machineOf (now (cells .exit)) (r .peripherals) (r .control)) (r .reply) ≡ lentRunOf (runOn (modelOf number) (now (rom .entry)) (signals input pulse) budget (machineOf (now (cells .entry)) peripherals control)) ⌝ }
 {
     let Selected::Model(model) = selected(number) else {
-        return not_run(machine);
-    };
-    let r = cpu::run(model, rom, machine, input, pulse, budget);
-    let after = r.machine;
-    let memory = after.memory;
-    let peripherals = after.peripherals;
-    let control = after.control;
-    let count = r.count;
-    let end = r.end;
-    LentRun {
-        machine: Machine {
-            memory: memory,
+        return RunLeft {
             peripherals: by_registers(peripherals),
             control: by_fields(control),
-        },
+            reply: not_run(),
+        };
+    };
+    let part = by_fields(control);
+    let r = cpu::run_in_place(model, rom, cells, peripherals, part, input, pulse, budget);
+    let count = r.count;
+    let answer = r.answer;
+    let end = cpu::end_of(answer);
+    RunLeft {
+        peripherals: by_registers(r.peripherals),
+        control: by_fields(r.control),
         reply: RunReply {
             count: count,
             number: end.number(),

@@ -21,15 +21,17 @@ ghost use Rattle.pollwezen.specs.Lent.{lentRun, lentRunOf, lentStep, len
 ghost use Rattle.pollwezen.specs.Models.{modelOf, ClearOn, SafeOn, resetOn, runOn, stepOn, verifyOn};
 ghost use Rattle.pollwezen.specs.Replies.{printReplyOf, readReplyOf, verdictReplyOf, writeReplyOf};
 use calls::reset_by_value;
-use calls::run_by_value;
+use calls::run_on_cells;
 use calls::selected;
-use calls::step_by_parts;
+use calls::step_on_cells;
 use cpu::Count;
 use listing::DecodedRow;
 use listing::EncodedRow;
+use machine::Control;
 use machine::Input;
 use machine::Machine;
 use memory::Model;
+use peripherals::Peripherals;
 
 // A run's steps with their cycles, and its refusal or 0.
 #[repr(C)]
@@ -81,6 +83,20 @@ struct LentRun {
     reply: RunReply,
 }
 
+// What a step leaves beside the cells, and its number.
+struct StepLeft {
+    peripherals: Peripherals,
+    control: Control,
+    number: u8,
+}
+
+// What a run leaves beside the cells, and its reply.
+struct RunLeft {
+    peripherals: Peripherals,
+    control: Control,
+    reply: RunReply,
+}
+
 // The reset record of a model, written over the lent one: 0, or 1 for a number that is no model's, and then the record stays.
 #[no_mangle]
 pub extern "C" fn pollwezen_reset(model: u8, machine: &mut Machine) -> u8
@@ -104,16 +120,17 @@ pub extern "C" fn pollwezen_step(
     ensures { λ r. ⌜ (lentStep (now (machine .exit)) r ≡ lentStepOf (stepOn (modelOf model) (now (rom .entry)) (signals input pulse) (now (machine .entry))))
         × ((r ≡ 0 → ⊥) → (r ≡ 255 → ⊥) → now (machine .exit) ≡ now (machine .entry)) ⌝ }
 {
-    let s = step_by_parts(
+    let s = step_on_cells(
         model,
         rom,
-        machine.memory,
+        &mut machine.memory.cells,
         machine.peripherals,
         machine.control,
         input,
         pulse,
     );
-    *machine = s.machine;
+    machine.peripherals = s.peripherals;
+    machine.control = s.control;
     s.number
 }
 
@@ -129,8 +146,18 @@ pub extern "C" fn pollwezen_run(
 ) -> RunReply
     ensures { λ r. ⌜ lentRun (now (machine .exit)) r ≡ lentRunOf (runOn (modelOf model) (now (rom .entry)) (signals input pulse) budget (now (machine .entry))) ⌝ }
 {
-    let r = run_by_value(model, rom, *machine, input, pulse, budget);
-    *machine = r.machine;
+    let r = run_on_cells(
+        model,
+        rom,
+        &mut machine.memory.cells,
+        machine.peripherals,
+        machine.control,
+        input,
+        pulse,
+        budget,
+    );
+    machine.peripherals = r.peripherals;
+    machine.control = r.control;
     r.reply
 }
 

@@ -1,8 +1,8 @@
 use mathlib.Core.Path.{_∙_, ap, sym}
 use Rattle.pollwezen.specs.Lent.{lentStepOf}
 use borrow.Author.Needs.{needs}
-use Rattle.pollwezen.proofs.calls.step_by_parts.Statement.{statement}
-use Rattle.pollwezen.proofs.calls.step_by_parts.Tie as tie
+use Rattle.pollwezen.proofs.calls.step_on_cells.Statement.{statement}
+use Rattle.pollwezen.proofs.calls.step_on_cells.Tie as tie
 
 returns : tie.Need-returns
 returns c =
@@ -10,12 +10,12 @@ returns c =
 
 returns-2 : tie.Need-returns-2
 returns-2 c =
-    let e = rw (c .before .before .before .before .before .by-fields2 .ensures) at (c .before .before .before .before .step-in-place .ensures .0) in
-    rw (sym (c .before .before .before .before .before .before .before .before .before .before .before .selected .ensures) ∙ c .before .before .before .before .before .before .before .before .before .model .given .1, c .number .ensures, c .before .by-fields3 .ensures, c .before .before .by-registers2 .ensures)
+    let e = rw (c .before .before .before .before .before .by-fields2 .ensures) at (c .before .before .before .step-in-place .ensures .0) in
+    rw (sym (c .before .before .before .before .before .before .before .before .before .selected .ensures) ∙ c .before .before .before .before .before .before .before .model .given .1, c .number .ensures, c .before .by-fields3 .ensures, c .before .before .by-registers2 .ensures)
     (ap lentStepOf e)
 
-pub step-by-parts-spec : {M : Type 1} → statement M
-step-by-parts-spec =
+pub step-on-cells-spec : {M : Type 1} → statement M
+step-on-cells-spec =
     tie.close
     (tie.spec
     (λ c κs. search needs)
