@@ -1,5 +1,6 @@
 pub mod Booleans
 pub mod Every
+pub mod Some
 pub mod Arms
 pub mod First
 pub mod Wrap

@@ -1,7 +1,7 @@
 use mathlib.Core.Path.{refl}
 use Rattle.sheet.specs.Entry.{atLeast}
-use Rattle.sheet.proofs.entry.at_least.Statement.{statement}
-use Rattle.sheet.proofs.entry.at_least.Tie as tie
+use Rattle.sheet.proofs.range.at_least.Statement.{statement}
+use Rattle.sheet.proofs.range.at_least.Tie as tie
 
 returns : tie.Need-returns
 unfolding atLeast

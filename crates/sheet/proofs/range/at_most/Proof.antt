@@ -1,7 +1,7 @@
 use mathlib.Core.Path.{refl}
 use Rattle.sheet.specs.Entry.{atMost}
-use Rattle.sheet.proofs.entry.at_most.Statement.{statement}
-use Rattle.sheet.proofs.entry.at_most.Tie as tie
+use Rattle.sheet.proofs.range.at_most.Statement.{statement}
+use Rattle.sheet.proofs.range.at_most.Tie as tie
 
 returns : tie.Need-returns
 unfolding atMost
