@@ -23,7 +23,8 @@ use Rattle.control.specs.declared.ArOp.{ArOp}
 use Rattle.control.specs.declared.Flow.{Flow}
 use Rattle.control.specs.declared.Flow.the-variants.{Onward, Skips, Branches, Calls, Returns, ReadsTable, StandsBy, ByAr, Refused}
 use Rattle.cpu.specs.Execute.{pastTable}
-use Rattle.sheet.specs.Entry.{Entry, entryAt, holds, raised, atMost}
+use Rattle.sheet.specs.Entry.{entryAt, holds, raised, atMost}
+use Rattle.sheet.specs.declared.Entry.{Entry}
 use Rattle.sheet.proofs.Entries.{raised-holds, at-most-holds, at-least-holds}
 use Rattle.clearance.specs.Calls.{Tally, counted}
 use Rattle.clearance.specs.Rules.{isReturnSkip, flowAt, met}

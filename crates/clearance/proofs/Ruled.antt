@@ -3,22 +3,22 @@
 use mathlib.Core.Path.{_≡_, _∙_, sym}
 use mathlib.Core.Bool.{Bool, true, _&&_}
 use mathlib.Core.List.{List}
-use mathlib.Core.Logic.{⊎-elim}
-use Prim.Native.Nat.{ℕ, zero, suc, _^_, _<_, _≤_}
-use native.Mathlib.Nat.{eq-or-lt-of-le, le-of-suc-le-suc, not-suc-le-zero}
+use Prim.Native.Nat.{ℕ, _^_, _<_, _≤_}
 use borrow.Author.Tests.{ltb-true}
 use lib.Dec.{ltb, lit≤}
 use lib.ListN.{length}
-use Rattle.laws.proofs.Booleans.{both, or-left, or-right}
+use Rattle.laws.proofs.Booleans.{both}
+use Rattle.laws.proofs.Some.{some-of}
 use Rattle.memory.specs.Chip.{Chip}
 use Rattle.memory.specs.Range.{cellsInRange}
 use Rattle.memory.specs.Registers.{arOf}
 use Rattle.machine.specs.Ranges.{places, romInRange}
 use Rattle.control.specs.declared.Flow.{Flow}
 use Rattle.cpu.proofs.Ranged.{ArFits}
-use Rattle.sheet.specs.Entry.{Entry, entryAt, reached, holds, shares}
+use Rattle.sheet.specs.Entry.{entryAt, holds, shares}
+use Rattle.sheet.specs.declared.Entry.{Entry}
 use Rattle.sheet.proofs.Entries.{holds-reached, covers-holds, shares-both}
-use Rattle.clearance.specs.Rules.{Ask, isReturnSkip, flowAt, met, skipReturnBelow, skipReturns, rule3, rule4, rule5, rule6, whereReached, ruleOf, EveryRule}
+use Rattle.clearance.specs.Rules.{Ask, isReturnSkip, flowAt, met, skipReturns, rule3, rule4, rule5, rule6, whereReached, ruleOf, EveryRule}
 
 pub record Cleared (chip : Chip) (rom sheet : List ℕ) : Type 0 where
   -- of the chip: the record has a place for each level, there is a level, and AR holds an address and a table's
@@ -56,18 +56,12 @@ module _ (chip : Chip) (rom sheet : List ℕ) where
     pub asked : (d : ℕ) → holds (chip .levels) (a .entry) d ≡ true → Stands (a .word) d
     asked d h = record { inside = asked-inside; level = asked-level d h }
 
-  found-below : (n w : ℕ) (e : Entry) → w < n → isReturnSkip (F w) ≡ true → shares (chip .levels) (E w) e ≡ true → skipReturnBelow chip rom sheet n e ≡ true
-  found-below zero w e h r s = absurd (not-suc-le-zero h)
-  found-below (suc n) w e h r s =
-      ⊎-elim
-      (λ (q : w ≡ n). or-left (isReturnSkip (F n) && shares (chip .levels) (E n) e) _ (rw (← q, r, s)))
-      (λ (l : w < n). or-right (isReturnSkip (F n) && shares (chip .levels) (E n) e) (skipReturnBelow chip rom sheet n e) (found-below n w e l r s))
-      (eq-or-lt-of-le (le-of-suc-le-suc h))
-
   -- a reached RETSK at a depth that an entry holds is found
   pub found : (w d : ℕ) (e : Entry) → Stands w d → isReturnSkip (F w) ≡ true → holds (chip .levels) e d ≡ true → skipReturns chip rom sheet e ≡ true
   unfolding skipReturns
-  found w d e s f h = found-below (length rom) w e (s .inside) f (shares-both (chip .levels) (E w) e d (s .level) h)
+  found w d e s f h =
+      let both-hold = shares-both (chip .levels) (E w) e d (s .level) h in
+      some-of (λ (k : ℕ). isReturnSkip (F k) && shares (chip .levels) (E k) e) (length rom) w (s .inside) (rw f both-hold)
 
   -- the rules of a reached word
   pub record Ruled (w : ℕ) (f : Flow) (e : Entry) : Type 0 where

@@ -30,7 +30,8 @@ use Rattle.cpu.proofs.Lacking.{whole-lacks}
 use Rattle.cpu.proofs.Phases.{stays, passed-over, executed}
 use Rattle.cpu.proofs.RangeParts.{machine-parts}
 use Rattle.cpu.proofs.Turns.{step-advances}
-use Rattle.sheet.specs.Entry.{Entry, entryAt}
+use Rattle.sheet.specs.Entry.{entryAt}
+use Rattle.sheet.specs.declared.Entry.{Entry}
 use Rattle.clearance.specs.Calls.{Tally, afterReply}
 use Rattle.clearance.specs.Rules.{noWord, wordAt, flowAt}
 use Rattle.clearance.proofs.Paths.{OnPath, follows}

@@ -1,17 +1,19 @@
--- The six clearance rules: document 01, "Clearance rules".
+-- The six clearance rules: document 01, "Clearance rules", over entries that are a range: document 02, E5.
 -- Assumes nothing.
-use mathlib.Core.Bool.{Bool, true, false, _&&_, _||_, cond}
+use mathlib.Core.Bool.{Bool, true, false, _&&_, cond}
 use mathlib.Core.List.{List, [], _∷_}
 use mathlib.Core.Path.{_≡_}
-use Prim.Native.Nat.{ℕ, zero, suc, _-_, _^_, _<_, _≤_}
+use Prim.Native.Nat.{ℕ, _-_, _^_, _<_, _≤_}
 use lib.Dec.{eqb, ltb}
 use lib.ListN.{getD, length}
+use Rattle.laws.specs.Every.{some}
 use Rattle.memory.specs.Chip.{Chip}
 use Rattle.control.specs.Control.{nextOf}
 use Rattle.control.specs.Flow.{wordFlow}
 use Rattle.control.specs.declared.Flow.{Flow}
 use Rattle.control.specs.declared.Flow.the-variants.{Onward, Skips, Branches, Calls, Returns, ReadsTable, StandsBy, ByAr, Refused}
-use Rattle.sheet.specs.Entry.{Entry, entryAt, reached, proper, holds, covers, shares, raised, atMost, atLeast}
+use Rattle.sheet.specs.Entry.{entryAt, reached, proper, holds, covers, shares, raised, atMost, atLeast}
+use Rattle.sheet.specs.declared.Entry.{Entry}
 
 abbrev pub isReturnSkip : Flow → Bool
 isReturnSkip Onward = false
@@ -49,26 +51,22 @@ module _ (chip : Chip) (rom sheet : List ℕ) where
   allMet [] = true
   allMet (a ∷ rest) = met a && allMet rest
 
-  -- some reached RETSK shares a depth with an entry
-  abbrev pub skipReturnBelow : ℕ → Entry → Bool
-  skipReturnBelow zero e = false
-  skipReturnBelow (suc w) e = (isReturnSkip (flowAt rom w) && shares (chip .levels) (entryAt sheet w) e) || skipReturnBelow w e
-
+  -- "a reached RETSK shares a depth with" an entry
   unfoldable pub skipReturns : Entry → Bool
-  skipReturns e = skipReturnBelow (length rom) e
+  skipReturns e = some (λ (w : ℕ). isReturnSkip (flowAt rom w) && shares (chip .levels) (entryAt sheet w) e) (length rom)
 
--- Each rule, of a word's number, its flow and its entry.
+-- Each rule, of a word's number, its flow and its entry: what document 01 says of a level document 02 says of a range.
 
--- 1: "Word 0 has level 0", tried at word 0 only, reached or not
+-- 1: "Word 0 has level 0", "word 0 must hold level 0"; tried at word 0 only, reached or not
 unfoldable pub rule1 : Chip → ℕ → Entry → Bool
 rule1 chip w e = cond (eqb w 0) (holds (chip .levels) e 0) true
 
--- 2: "Every entry is 0 to 5 or 15"
+-- 2: "Every entry is 0 to 5 or 15"; "lowest above highest, or 15 for one only [..] breaks rule 2"
 unfoldable pub rule2 : Chip → Entry → Bool
 rule2 chip e = proper (chip .levels) e
 
 -- 3: an instruction, none of refusals 4 and 30, and no BR @AR, CALL @AR, PUSH AR or POP AR; MOVT only in a ROM of 1,024 words (AR has
--- ten bits) and with a free level
+-- ten bits) and at "a highest of at most 4", one below the chip's levels
 abbrev pub rule3 : Chip → List ℕ → Flow → Entry → Bool
 rule3 chip rom Onward e = true
 rule3 chip rom Skips e = true
@@ -80,8 +78,8 @@ rule3 chip rom (StandsBy rest) e = true
 rule3 chip rom (ByAr op) e = false
 rule3 chip rom (Refused n) e = false
 
--- 4: except after BR, RET and RETSK next has the word's level; after a skip so has the word after next, and after BR its
--- target. What goes by AR or is refused breaks rule 3 already.
+-- 4: except after BR, RET and RETSK next must "hold the word's whole range"; after a skip so must the word after next, and after BR
+-- its target. What goes by AR or is refused breaks rule 3 already.
 abbrev pub asks4 : Chip → ℕ → Flow → Entry → List Ask
 asks4 chip w Onward e = record { word = nextOf chip w; entry = e } ∷ []
 asks4 chip w Skips e = record { word = nextOf chip w; entry = e } ∷ record { word = nextOf chip (nextOf chip w); entry = e } ∷ []
@@ -97,8 +95,8 @@ module _ (chip : Chip) (rom sheet : List ℕ) where
   abbrev pub rule4 : ℕ → Flow → Entry → Bool
   rule4 w f e = allMet chip rom sheet (asks4 chip w f e)
 
-  -- 5: CALL at level 4 or less, its target one higher; if a reached RETSK has that higher level, the word after next has CALL's
-  -- own
+  -- 5: CALL at "a highest of at most 4", its target holds "that range raised by one"; "where a reached RETSK shares a depth with the
+  -- raised range", the word after next holds CALL's own range, whole
   abbrev pub asks5 : ℕ → ℕ → Entry → List Ask
   asks5 w to e =
       record { word = to; entry = raised e }
@@ -115,7 +113,7 @@ module _ (chip : Chip) (rom sheet : List ℕ) where
   rule5 w (ByAr op) e = true
   rule5 w (Refused n) e = true
 
--- 6: RET and RETSK at level 1 or more
+-- 6: RET and RETSK at "a lowest of at least 1"
 abbrev pub rule6 : Flow → Entry → Bool
 rule6 Onward e = true
 rule6 Skips e = true

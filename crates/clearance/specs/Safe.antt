@@ -1,6 +1,7 @@
 -- Demand 3: whatever list of calls is made on a passed ROM from reset, no call is refused that has its own inputs and budget
 -- in range, none with a number other than 1, and at every moment the word about to run lies in the ROM and the open calls
--- are its level. On a chip that lacks cells a call may also be refused with 31, and the moments hold then too (document 02, E1).
+-- lie in its range (document 02, E5). On a chip that lacks cells a call may also be refused with 31, and the moments hold then too
+-- (document 02, E1).
 -- Assumes nothing.
 use mathlib.Core.Path.{_≡_}
 use mathlib.Core.Bool.{true, false}
@@ -17,8 +18,8 @@ use Rattle.clearance.specs.Calls.{HostCall, step, run, ownInRange, Tally
 use Rattle.sheet.specs.Entry.{entryAt, holds}
 
 module _ (chip : Chip) (rom sheet : List ℕ) where
-  -- a moment: the PC lies in the ROM, and its entry and the record's open levels are the number of open calls, which are
-  -- the calls that have not returned
+  -- a moment: the PC lies in the ROM, the open calls, which are those that have not returned, lie in the range of the word about to
+  -- run, and the record's open levels are their number
   pub record Moment (m : Machine) (t : Tally) : Type 0 where
     pub inside : m .control .pc < length rom
     pub opened : t .returns + m .control .levels ≡ t .calls

@@ -3,7 +3,7 @@
 use mathlib.Core.Path.{_≡_, refl, subst}
 use mathlib.Core.Bool.{Bool, true, false, cond}
 use mathlib.Core.List.{List}
-use Prim.Native.Nat.{ℕ, suc, _-_, _<_, _≤_, zero-le}
+use Prim.Native.Nat.{ℕ, suc, _*_, _-_, _<_, _≤_, zero-le}
 use native.Mathlib.Nat.{zero-add}
 use native.Mathlib.Omega.{arith}
 use borrow.Author.Tests.{ltb-true, ltb-false, eqb-true, eq-eqb}
@@ -48,12 +48,12 @@ module _ (chip : Chip) (rom sheet : List ℕ) where
       omega arith
   none-fails every false e q = let z : _≡_ {A = ℕ} 0 1 = cc in omega arith
 
-  passes : (a b c : Bool) (w r : ℕ) → romInRange chip rom ≡ a → eqb (length sheet) (length rom) ≡ b → ltb (lowestWord chip rom sheet) (length rom) ≡ c
+  passes : (a b c : Bool) (w r : ℕ) → romInRange chip rom ≡ a → eqb (length sheet) (2 * length rom) ≡ b → ltb (lowestWord chip rom sheet) (length rom) ≡ c
       → cond a (cond b (cond c (fail w r) pass) (refused 9)) (refused 1) ≡ pass → Clear chip rom sheet
   passes true true true w r p q s e = absurd (let z : _≡_ {A = ℕ} 0 1 = cc in omega arith)
   passes true true false w r p q s e = record {
     whole = p;
-    fitting = eqb-true (length sheet) (length rom) q;
+    fitting = eqb-true (length sheet) (2 * length rom) q;
     rules = all-clear (ltb-false (lowestWord chip rom sheet) (length rom) s);
   }
   passes true false c w r p q s e = absurd (let z : _≡_ {A = ℕ} 0 1 = cc in omega arith)
@@ -64,8 +64,8 @@ module _ (chip : Chip) (rom sheet : List ℕ) where
     rom-fits : romInRange chip rom ≡ true
     rom-fits = c .whole
 
-    sheet-fits : eqb (length sheet) (length rom) ≡ true
-    sheet-fits = eq-eqb (length sheet) (length rom) (c .fitting)
+    sheet-fits : eqb (length sheet) (2 * length rom) ≡ true
+    sheet-fits = eq-eqb (length sheet) (2 * length rom) (c .fitting)
 
     no-word-fails : ltb (lowestWord chip rom sheet) (length rom) ≡ false
     no-word-fails =
@@ -75,7 +75,7 @@ module _ (chip : Chip) (rom sheet : List ℕ) where
   unfolding verifyOf ruled
   exactly = (
     (λ e.
-        passes (romInRange chip rom) (eqb (length sheet) (length rom)) (ltb (lowestWord chip rom sheet) (length rom))
+        passes (romInRange chip rom) (eqb (length sheet) (2 * length rom)) (ltb (lowestWord chip rom sheet) (length rom))
         (lowestWord chip rom sheet) (lowestRule chip rom sheet (lowestWord chip rom sheet)) refl refl refl e),
     (λ c. rw (rom-fits c, sheet-fits c, no-word-fails c)),
   )

@@ -10,7 +10,7 @@ use Rattle.memory.specs.Chip.{Chip}
 use Rattle.control.proofs.Flow.{the-type}
 use Rattle.control.specs.declared.Flow.{Flow}
 use Rattle.control.specs.declared.Flow.the-variants.{Onward, Skips, Branches, Calls, Returns, ReadsTable, StandsBy, ByAr, Refused}
-use Rattle.sheet.specs.Entry.{Entry}
+use Rattle.sheet.specs.declared.Entry.{Entry}
 use Rattle.clearance.specs.Rules.{rule5, rule6}
 
 module _ (chip : Chip) (rom sheet : List ℕ) (w : ℕ) (e : Entry) where

@@ -4,7 +4,7 @@ use mathlib.Core.Path.{_≡_, _∙_, ap, refl, sym, subst}
 use mathlib.Core.Bool.{Bool, true, false}
 use mathlib.Core.List.{List}
 use mathlib.Core.Logic.{⊎-elim}
-use Prim.Native.Nat.{ℕ, zero, suc, _+_, _-_, _<_, _≤_, zero-le}
+use Prim.Native.Nat.{ℕ, zero, suc, _+_, _*_, _-_, _<_, _≤_, zero-le}
 use native.Mathlib.Nat.{eq-or-lt-of-le, zero-add, not-suc-le-zero}
 use native.Mathlib.Omega.{arith}
 use borrow.Author.Tests.{lt-ltb, le-ltb, le-leb, lt-leb, eq-eqb, ne-eqb}
@@ -15,7 +15,8 @@ use Rattle.laws.proofs.First.{Clear, First, first-is}
 use Rattle.memory.specs.Chip.{Chip}
 use Rattle.machine.specs.Ranges.{romInRange}
 use Rattle.control.specs.declared.Flow.{Flow}
-use Rattle.sheet.specs.Entry.{Entry, entryAt, reached}
+use Rattle.sheet.specs.Entry.{entryAt, reached}
+use Rattle.sheet.specs.declared.Entry.{Entry}
 use Rattle.clearance.specs.Rules.{flowAt, ruleOf, ruleHolds}
 use Rattle.verifier.specs.Verdict.{pass, fail, refused, wordHolds, lowestWord, lowestRule, ruled, verifyOf}
 use Rattle.verifier.proofs.Exact.{word-holds, rule-holds}
@@ -101,11 +102,11 @@ module _ (chip : Chip) (rom sheet : List ℕ) where
     unfolding romInRange
     whole = rw (lt-ltb 0 (length rom) (omega arith), le-leb (length rom) (chip .words) few) refl
 
-    pub unlike : (length sheet ≡ length rom → ⊥) → refused 9 ≡ verifyOf chip rom sheet
+    pub unlike : (length sheet ≡ 2 * length rom → ⊥) → refused 9 ≡ verifyOf chip rom sheet
     unfolding verifyOf
-    unlike n = rw (whole, ne-eqb (length sheet) (length rom) n) refl
+    unlike n = rw (whole, ne-eqb (length sheet) (2 * length rom) n) refl
 
-    module _ (same : length sheet ≡ length rom) where
+    module _ (same : length sheet ≡ 2 * length rom) where
       pub passes : (w : ℕ) → w ≡ length rom → WordsTo w → pass ≡ verifyOf chip rom sheet
       unfolding verifyOf ruled
       passes w e s =
@@ -117,7 +118,7 @@ module _ (chip : Chip) (rom sheet : List ℕ) where
           } in
           let at : lowestWord chip rom sheet ≡ length rom = first-word (length rom) first in
           let over : ltb (lowestWord chip rom sheet) (length rom) ≡ false = le-ltb (lowestWord chip rom sheet) (length rom) (omega arith) in
-          rw (whole, eq-eqb (length sheet) (length rom) same, over) refl
+          rw (whole, eq-eqb (length sheet) (2 * length rom) same, over) refl
 
       module _ (w rule : ℕ) (inside : w < length rom) (s : WordsTo w) (lo : 1 ≤ rule) (hi : rule ≤ 6) (c : RulesTo w rule)
           (broken : ruleHolds chip rom sheet w rule ≡ false) where
@@ -143,4 +144,4 @@ module _ (chip : Chip) (rom sheet : List ℕ) where
               fails = λ _. subst (λ (x : ℕ). ruleHolds chip rom sheet w x ≡ false) (sym up) broken;
             })
             ∙ up in
-            rw (whole, eq-eqb (length sheet) (length rom) same, word, lt-ltb w (length rom) inside, lowest) refl
+            rw (whole, eq-eqb (length sheet) (2 * length rom) same, word, lt-ltb w (length rom) inside, lowest) refl

@@ -6,7 +6,7 @@ use mathlib.Core.Bool.{Bool, true, cond}
 use mathlib.Core.List.{List}
 use mathlib.Core.Logic.{_↔_}
 use mathlib.Mathlib.Logic.Function.Defs.{Injective}
-use Prim.Native.Nat.{ℕ, suc}
+use Prim.Native.Nat.{ℕ, suc, _*_}
 use lib.Dec.{eqb, ltb}
 use lib.ListN.{length}
 use Rattle.laws.specs.Every.{every}
@@ -53,14 +53,15 @@ module _ (chip : Chip) (rom sheet : List ℕ) where
   unfoldable pub ruled : CheckAnswer
   ruled = cond (ltb lowestWord (length rom)) (fail lowestWord (lowestRule lowestWord)) pass
 
-  -- refusal 1, for the ROM's length alone; then 9, sheet length differs from the ROM's; then the rules
+  -- refusal 1, for the ROM's length alone; then 9, "sheet length differs from the ROM's", with two bytes an entry (document 02, E5); then
+  -- the rules
   unfoldable pub verifyOf : CheckAnswer
-  verifyOf = cond (romInRange chip rom) (cond (eqb (length sheet) (length rom)) ruled (refused 9)) (refused 1)
+  verifyOf = cond (romInRange chip rom) (cond (eqb (length sheet) (2 * length rom)) ruled (refused 9)) (refused 1)
 
   -- no refusal, and every rule holds at every word
   pub record Clear : Type 0 where
     pub whole : romInRange chip rom ≡ true
-    pub fitting : length sheet ≡ length rom
+    pub fitting : length sheet ≡ 2 * length rom
     pub rules : EveryRule chip rom sheet
 
   -- demand 3: "The check passes a ROM with its sheet exactly when it has no refusal for them and document 01's clearance rules hold"

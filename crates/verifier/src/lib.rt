@@ -15,7 +15,7 @@ pub enum Verdict {
     Fail { word: u16, rule: u8 },
     // The ROM has no word, or more than the model allows: refusal 1.
     RomLength,
-    // The sheet's length differs from the ROM's: refusal 9.
+    // The sheet has not two bytes for each word of the ROM: refusal 9.
     SheetLength,
 }
 

@@ -10,6 +10,8 @@ use crate::entries::has_all_of;
 use crate::entries::with_depths;
 use control::Flow;
 use memory::Model;
+use sheet::Entry;
+use sheet::UNREACHED;
 use sheet::entry_at;
 
 // The flow of a word; past the ROM there is no instruction.
@@ -24,7 +26,7 @@ pub(crate) fn flow_at(rom: &[u16], word: u16) -> Flow
 }
 
 // Whether a word that a rule names lies in the ROM and its entry covers what is asked.
-pub(crate) fn is_met(model: Model, rom: &[u16], sheet: &[u8], word: u16, asked: u8) -> bool
+pub(crate) fn is_met(model: Model, rom: &[u16], sheet: &[u8], word: u16, asked: Entry) -> bool
     ensures { λ r. ⌜ r ≡ met (chipOf model) (now (rom .entry)) (now (sheet .entry)) (record { word = word; entry = asked }) ⌝ }
 {
     if rom.len() <= word as usize {
@@ -54,11 +56,11 @@ fn return_skip_at(rom: &[u16], word: u16) -> bool
 }
 
 // The depths that some reached RETSK holds, in one pass over the ROM.
-pub(crate) fn return_depths(model: Model, rom: &[u16], sheet: &[u8]) -> [bool; 6]
+pub(crate) fn return_depths(model: Model, rom: &[u16], sheet: &[u8]) -> [u8; 6]
     requires { ⌜ length (now rom) ≤ 1024 ⌝ }
     ensures { λ r. ⌜ ReturnDepths (chipOf model) (now (rom .entry)) (now (sheet .entry)) r ⌝ }
 {
-    let mut depths = [false; 6];
+    let mut depths = [UNREACHED; 6];
     let mut word: u16 = 0;
     while (word as usize) < rom.len() {
         if return_skip_at(rom, word) {

@@ -1,25 +1,28 @@
 // The clearance rules, each of a word's number, its flow and its entry.
 ghost use mathlib.Core.Path.{_≡_};
+ghost use mathlib.Core.Bool.{true};
 ghost use mathlib.Core.List.{[], _∷_};
 ghost use Prim.Native.Nat.{_≤_};
 ghost use Rattle.memory.specs.Chip.{chipOf};
 ghost use Rattle.control.specs.Control.{nextOf};
-ghost use Rattle.clearance.specs.Rules.{allMet, rule1, rule2, rule3, rule4, rule5, rule6, ruleOf};
+ghost use Rattle.sheet.specs.Entry.{reached};
+ghost use Rattle.clearance.specs.Rules.{allMet, met, rule1, rule2, rule3, rule4, rule5, rule6, ruleOf};
 ghost use Rattle.verifier.specs.ReturnDepths.{ReturnDepths};
 use crate::entries::has_depth;
 use crate::entries::is_proper;
 use crate::entries::is_reached;
 use crate::entries::leaves_room;
+use crate::entries::shares_any;
 use crate::reading::is_met;
 use control::Flow;
 use control::next;
 use memory::Model;
+use sheet::Entry;
 use sheet::at_least;
 use sheet::raised;
-use sheet::shares_any;
 
 // Rule 1, of word 0 only.
-fn rule_1(model: Model, word: u16, entry: u8) -> bool
+fn rule_1(model: Model, word: u16, entry: Entry) -> bool
     ensures { λ r. ⌜ r ≡ rule1 (chipOf model) word entry ⌝ }
 {
     if word != 0 {
@@ -29,14 +32,14 @@ fn rule_1(model: Model, word: u16, entry: u8) -> bool
 }
 
 // Rule 2.
-fn rule_2(model: Model, entry: u8) -> bool
+fn rule_2(model: Model, entry: Entry) -> bool
     ensures { λ r. ⌜ r ≡ rule2 (chipOf model) entry ⌝ }
 {
     is_proper(model, entry)
 }
 
 // MOVT.
-fn table_allowed(model: Model, rom: &[u16], entry: u8) -> bool
+fn table_allowed(model: Model, rom: &[u16], entry: Entry) -> bool
     ensures { λ r. ⌜ r ≡ rule3 (chipOf model) (now (rom .entry)) Flow.ReadsTable entry ⌝ }
 {
     if rom.len() != 1024 {
@@ -46,7 +49,7 @@ fn table_allowed(model: Model, rom: &[u16], entry: u8) -> bool
 }
 
 // Rule 3.
-fn rule_3(model: Model, rom: &[u16], flow: Flow, entry: u8) -> bool
+fn rule_3(model: Model, rom: &[u16], flow: Flow, entry: Entry) -> bool
     ensures { λ r. ⌜ r ≡ rule3 (chipOf model) (now (rom .entry)) flow entry ⌝ }
 {
     match flow {
@@ -63,7 +66,7 @@ fn rule_3(model: Model, rom: &[u16], flow: Flow, entry: u8) -> bool
 }
 
 // The two words that a skip may go to.
-fn skip_met(model: Model, rom: &[u16], sheet: &[u8], after: u16, entry: u8) -> bool
+fn skip_met(model: Model, rom: &[u16], sheet: &[u8], after: u16, entry: Entry) -> bool
     ensures { λ r. ⌜ r ≡ allMet (chipOf model) (now (rom .entry)) (now (sheet .entry)) (record { word = after; entry = entry } ∷ record { word = nextOf (chipOf model) after; entry = entry } ∷ []) ⌝ }
 {
     if !is_met(model, rom, sheet, after, entry) {
@@ -73,7 +76,7 @@ fn skip_met(model: Model, rom: &[u16], sheet: &[u8], after: u16, entry: u8) -> b
 }
 
 // Rule 4.
-fn rule_4(model: Model, rom: &[u16], sheet: &[u8], word: u16, flow: Flow, entry: u8) -> bool
+fn rule_4(model: Model, rom: &[u16], sheet: &[u8], word: u16, flow: Flow, entry: Entry) -> bool
     ensures { λ r. ⌜ r ≡ rule4 (chipOf model) (now (rom .entry)) (now (sheet .entry)) word flow entry ⌝ }
 {
     let after = next(model, word);
@@ -90,17 +93,25 @@ fn rule_4(model: Model, rom: &[u16], sheet: &[u8], word: u16, flow: Flow, entry:
     }
 }
 
-// CALL.
+// The word after next, to which a RETSK comes back.
+fn skipped_met(model: Model, rom: &[u16], sheet: &[u8], word: u16, entry: Entry) -> bool
+    ensures { λ r. ⌜ r ≡ met (chipOf model) (now (rom .entry)) (now (sheet .entry)) (record { word = nextOf (chipOf model) (nextOf (chipOf model) word); entry = entry }) ⌝ }
+{
+    let back = next(model, word);
+    is_met(model, rom, sheet, next(model, back), entry)
+}
+
+// CALL, at a word that is reached.
 fn call_allowed(
     model: Model,
     rom: &[u16],
     sheet: &[u8],
-    depths: [bool; 6],
+    depths: [u8; 6],
     word: u16,
     to: u16,
-    entry: u8,
+    entry: Entry,
 ) -> bool
-    requires { ⌜ ReturnDepths (chipOf model) (now rom) (now sheet) depths ⌝ }
+    requires { ⌜ ReturnDepths (chipOf model) (now rom) (now sheet) depths × (reached ((chipOf model) .levels) entry ≡ true) ⌝ }
     ensures { λ r. ⌜ r ≡ rule5 (chipOf model) (now (rom .entry)) (now (sheet .entry)) word (Flow.Calls to) entry ⌝ }
 {
     if !leaves_room(model, entry) {
@@ -110,24 +121,23 @@ fn call_allowed(
     if !is_met(model, rom, sheet, to, higher) {
         return false;
     }
-    if !shares_any(depths, higher) {
+    if !shares_any(model, depths, higher) {
         return true;
     }
-    let back = next(model, word);
-    is_met(model, rom, sheet, next(model, back), entry)
+    skipped_met(model, rom, sheet, word, entry)
 }
 
-// Rule 5.
+// Rule 5, of a word that is reached.
 fn rule_5(
     model: Model,
     rom: &[u16],
     sheet: &[u8],
-    depths: [bool; 6],
+    depths: [u8; 6],
     word: u16,
     flow: Flow,
-    entry: u8,
+    entry: Entry,
 ) -> bool
-    requires { ⌜ ReturnDepths (chipOf model) (now rom) (now sheet) depths ⌝ }
+    requires { ⌜ ReturnDepths (chipOf model) (now rom) (now sheet) depths × (reached ((chipOf model) .levels) entry ≡ true) ⌝ }
     ensures { λ r. ⌜ r ≡ rule5 (chipOf model) (now (rom .entry)) (now (sheet .entry)) word flow entry ⌝ }
 {
     let Flow::Calls(to) = flow else {
@@ -137,7 +147,7 @@ fn rule_5(
 }
 
 // Rule 6.
-fn rule_6(flow: Flow, entry: u8) -> bool
+fn rule_6(flow: Flow, entry: Entry) -> bool
     ensures { λ r. ⌜ r ≡ rule6 flow entry ⌝ }
 {
     let Flow::Returns(_) = flow else {
@@ -151,10 +161,10 @@ pub(crate) fn rule_holds(
     model: Model,
     rom: &[u16],
     sheet: &[u8],
-    depths: [bool; 6],
+    depths: [u8; 6],
     word: u16,
     flow: Flow,
-    entry: u8,
+    entry: Entry,
     rule: u8,
 ) -> bool
     requires { ⌜ ReturnDepths (chipOf model) (now rom) (now sheet) depths × (1 ≤ rule) × (rule ≤ 6) ⌝ }

@@ -23,7 +23,7 @@ pub fn verify(model: Model, rom: &[u16], sheet: &[u8]) -> Verdict
     if model.words() < rom.len() {
         return Verdict::RomLength;
     }
-    if sheet.len() != rom.len() {
+    if sheet.len() != 2 * rom.len() {
         return Verdict::SheetLength;
     }
     let depths = return_depths(model, rom, sheet);

@@ -19,7 +19,7 @@ abbrev μ-loop : tie.MeasureT-loop
 μ-loop model rom sheet depths₀ word₀ depths word = length rom - word
 
 loop-holds : tie.Need-loop-holds Inv-loop μ-loop
-loop-holds c = (search needs, c .before .before .pre, refl, none-yet _ _ _ 6)
+loop-holds c = (search needs, c .before .before .pre, refl, none-yet _ _ _ (omega (arith, levels-fit (c .before .before .args .model))) 6)
 
 loop-again : tie.Need-loop-again Inv-loop μ-loop
 loop-again c =

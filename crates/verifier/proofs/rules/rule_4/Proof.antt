@@ -46,8 +46,8 @@ rule-4-spec =
     returns-2
     returns-3
     returns-4
-    (λ c. search needs)
+    (λ c. rw (c .enum-told4 .given .1))
     returns-6
     returns-7
-    (λ c. search needs)
-    (λ c. search needs))
+    (λ c. rw (c .enum-told7 .given .1))
+    (λ c. rw (c .enum-told8 .given .1)))

@@ -18,6 +18,9 @@ returns-2 c = rw (c .before .if2 .taken) (c .rule-2 .ensures)
 returns-3 : tie.Need-returns-3
 returns-3 c = sym (unreached-holds _ _ _ _ _ _ _ (sym (c .before .is-reached .ensures) ∙ not-true _ (c .if3 .taken)) (search needs) (search needs))
 
+rule-5-requires : tie.Need-rule-5-requires
+rule-5-requires c κs = (search needs, sym (c .before .before .is-reached .ensures) ∙ not-false _ (c .before .if3 .left))
+
 returns-4 : tie.Need-returns-4
 unfolding ruleOf
 returns-4 c = rw (c .before .match .keys1, sym (c .before .before .before .is-reached .ensures) ∙ not-false _ (c .before .before .if3 .left)) (c .rule-3 .ensures)
@@ -46,7 +49,7 @@ rule-holds-spec =
     returns-3
     (λ c κs. search needs)
     (λ c κs. search needs)
-    (λ c κs. search needs)
+    rule-5-requires
     (λ c κs. search needs)
     returns-4
     returns-5

@@ -28,6 +28,9 @@ returns c = promised (c .before .before .before .args .model) _ _ _ (empty _ _ _
 returns-2 : tie.Need-returns-2 Inv-rules μ-rules Inv-words μ-words
 returns-2 c = promised (c .before .before .before .before .before .args .model) _ _ _ (long _ _ _ (rw (c .before .words2 .ensures) at (c .if2 .taken)))
 
+twice-words : tie.Need-mul-if3 Inv-rules μ-rules Inv-words μ-words
+twice-words c = omega (arith, rw (c .before .words2 .ensures) at (c .if2 .left), words-below (c .before .before .before .before .before .args .model))
+
 returns-3 : tie.Need-returns-3 Inv-rules μ-rules Inv-words μ-words
 returns-3 c = promised (c .before .before .before .before .before .before .args .model) _ _ _ (unlike _ _ _ (c .before .before .before .if1 .left) (rw (c .before .before .words2 .ensures) at (c .before .if2 .left)) (c .if3 .taken))
 
@@ -69,6 +72,7 @@ verify-spec =
     returns
     (λ c κs. search needs)
     returns-2
+    twice-words
     returns-3
     depths-requires
     words-holds
