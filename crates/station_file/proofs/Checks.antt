@@ -8,8 +8,8 @@ use native.Mathlib.Omega.{arith}
 use lib.ListN.{length, take, drop}
 use borrow.Author.Tests.{le-leb, lt-leb, eq-eqb, ne-eqb}
 use Rattle.station_file.specs.Reading.{Reading, got, refused, andThen, fields}
-use Rattle.station_file.specs.Station.{entryByte, Form, inputByte, romCount, sheetCount}
-use Rattle.station_file.specs.Write.{everyAt, stationRefusal}
+use Rattle.station_file.specs.Station.{entryByte, entryField, Form, form2, inputByte, romCount}
+use Rattle.station_file.specs.Write.{everyAt, sheetLength, stationRefusal}
 use Rattle.station_file.specs.Answers.{fileNumber, stationOf}
 use Rattle.station_file.specs.Places.{scanned, byteField}
 use Rattle.station_file.specs.declared.FileRefusal.{FileRefusal}
@@ -45,6 +45,18 @@ module _ (ok : ℕ → ℕ → Bool) (xs : List ℕ) (r : Test) (h : scanned xs 
   pub fails : (f : FileRefusal) → r ≡ test.Refused f → everyAt ok 0 xs ≡ false
   fails f e = refused-false (everyAt ok 0 xs) (fileNumber f) xs (sym (ap (scanned xs 0 (length xs)) e) ∙ h ∙ every-scan ok 0 xs)
 
+-- a scan of a sheet by a form that is form 2
+module _ (form : Form) (q : form ≡ form2) (sheet : List ℕ) (r : Test)
+    (h : scanned sheet 0 (length sheet) r ≡ fields (entryField form (drop 0 sheet)) 0 (length sheet) (drop 0 sheet)) where
+  in-form2 : everyAt (entryByte form2 sheet) 0 sheet ≡ everyAt (entryByte form sheet) 0 sheet
+  in-form2 = ap (λ (f : Form). everyAt (entryByte f sheet) 0 sheet) (sym q)
+
+  pub entries-pass : r ≡ test.Passed → everyAt (entryByte form2 sheet) 0 sheet ≡ true
+  entries-pass e = in-form2 ∙ passes (entryByte form sheet) sheet r h e
+
+  pub entries-fail : (f : FileRefusal) → r ≡ test.Refused f → everyAt (entryByte form2 sheet) 0 sheet ≡ false
+  entries-fail f e = in-form2 ∙ fails (entryByte form sheet) sheet r h f e
+
 -- the tests in their order
 module _ (form : Form) (rom sheet inputs : List ℕ) where
   abbrev Says : ℕ → Type 0
@@ -55,16 +67,16 @@ module _ (form : Form) (rom sheet inputs : List ℕ) where
   rom-count-fails a = rw a refl
 
   module _ (a : romCount (length rom) ≡ true) where
-    pub sheet-count-fails : sheetCount (length rom) (length sheet) ≡ false → Says 22
+    pub sheet-count-fails : sheetLength form (length rom) (length sheet) ≡ false → Says 22
     unfolding stationRefusal
     sheet-count-fails b = rw (a, b) refl
 
-    module _ (b : sheetCount (length rom) (length sheet) ≡ true) where
-      pub sheet-fails : everyAt entryByte 0 sheet ≡ false → Says 23
+    module _ (b : sheetLength form (length rom) (length sheet) ≡ true) where
+      pub sheet-fails : everyAt (entryByte form sheet) 0 sheet ≡ false → Says 23
       unfolding stationRefusal
       sheet-fails d = rw (a, b, d) refl
 
-      module _ (d : everyAt entryByte 0 sheet ≡ true) where
+      module _ (d : everyAt (entryByte form sheet) 0 sheet ≡ true) where
         pub part-record : (length inputs % 11 ≡ 0 → ⊥) → Says 22
         unfolding stationRefusal
         part-record e = rw (a, b, d, ne-eqb (length inputs % 11) 0 e) refl

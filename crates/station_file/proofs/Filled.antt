@@ -1,15 +1,17 @@
--- Filling a buffer of words.
+-- Filling a buffer of words, or of entries.
 -- Assumes nothing.
 use mathlib.Core.Path.{_≡_, _∙_, sym, ap}
-use mathlib.Core.List.{List, [], _∷_, _++_}
+use mathlib.Core.List.{List, [], _∷_, _++_, append-assoc}
 use Prim.Native.Nat.{ℕ, _+_, _*_, _<_}
 use native.Mathlib.Nat.{add-assoc}
 use native.Mathlib.Numerals.{add-one}
 use native.Mathlib.Omega.{arith}
-use lib.ListN.{length, drop, set, getD}
-use lib.Seq.{getD-drop}
+use lib.ListN.{length, take, drop, set, getD, length-append, length-drop}
+use lib.Seq.{getD-drop, length-take-le}
+use Rattle.station_file.specs.Forms.{doubled}
 use Rattle.station_file.specs.Read.{overlay}
 use Rattle.station_file.specs.Places.{words}
+use Rattle.station_file.proofs.Halves.{length-doubled, doubled-suc}
 use Rattle.station_file.proofs.WordLists.{length-words, words-suc}
 use Rattle.station_file.proofs.Splices.{splice-front, splice-snoc}
 
@@ -34,3 +36,23 @@ word-filled file from rom₀ i next rom v n h e w =
     ∙ overlay-snoc (words i xs) v rom₀ i (sym (length-words i xs)) h
     ∙ ap (λ (k : ℕ). overlay (words i xs ++ (k ∷ [])) rom₀) z
     ∙ ap (λ (l : List ℕ). overlay l rom₀) (sym (words-suc i xs) ∙ ap (λ (k : ℕ). words k xs) (sym (add-one i)))
+
+-- one byte more, twice
+pub entry-filled : (bytes : List ℕ) (from : ℕ) (out₀ : List ℕ) (i next : ℕ) (out : List ℕ) → next ≡ 2 * i → from + i < length bytes
+    → next + 1 < length out₀ → out ≡ overlay (doubled (take i (drop from bytes))) out₀
+    → set (set out next (getD bytes (from + i) 0)) (next + 1) (getD bytes (from + i) 0)
+    ≡ overlay (doubled (take (i + 1) (drop from bytes))) out₀
+entry-filled bytes from out₀ i next out n h l e =
+    let xs = drop from bytes in
+    let v = getD bytes (from + i) 0 in
+    let d = doubled (take i xs) in
+    let in-part : i < length xs = omega (arith, length-drop from bytes) in
+    let size : next ≡ length d = omega (arith, length-doubled (take i xs), length-take-le i xs (omega arith)) in
+    let same : getD xs i 0 ≡ v = getD-drop from bytes i 0 in
+    ap (λ (o : List ℕ). set (set o next v) (next + 1) v) e
+    ∙ ap (λ (o : List ℕ). set o (next + 1) v) (overlay-snoc d v out₀ next size (omega arith))
+    ∙ overlay-snoc (d ++ (v ∷ [])) v out₀ (next + 1) (omega (arith, length-append d (v ∷ []))) l
+    ∙ ap (λ (l : List ℕ). overlay l out₀)
+    (append-assoc d (v ∷ []) (v ∷ [])
+    ∙ ap (λ (w : ℕ). d ++ (w ∷ w ∷ [])) (sym same)
+    ∙ sym (doubled-suc xs i in-part) ∙ ap (λ (k : ℕ). doubled (take k xs)) (sym (add-one i)))

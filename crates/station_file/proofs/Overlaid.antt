@@ -3,13 +3,14 @@
 use mathlib.Core.Path.{_≡_, _∙_, ap}
 use mathlib.Core.Bool.{true}
 use mathlib.Core.List.{List}
-use Prim.Native.Nat.{ℕ, _≤_}
+use Prim.Native.Nat.{ℕ, _/_, _≤_}
 use native.Mathlib.Omega.{arith}
 use lib.ListN.{length, take, drop, length-append}
 use lib.Seq.{take-append-seam}
 use Rattle.station_file.specs.Read.{Buffers, station, overlay, fitsIn, filled, placed, readOf}
 use Rattle.station_file.specs.Reading.{Reading, got}
-use Rattle.station_file.specs.Station.{Form, Station, parseOf}
+use Rattle.station_file.specs.Forms.{loadOf}
+use Rattle.station_file.specs.Station.{Station}
 use Rattle.station_file.specs.Write.{records}
 
 module _ (xs buffer : List ℕ) where
@@ -19,7 +20,7 @@ module _ (xs buffer : List ℕ) where
   pub overlay-long : length xs ≤ length (overlay xs buffer)
   overlay-long = omega (arith, length-append xs (drop (length xs) buffer))
 
-pub read-so : (form : Form) (xs : List ℕ) (s : Station) (rest : List ℕ) (b : Buffers) → parseOf form xs ≡ got s rest → fitsIn s b ≡ true
-    → readOf form xs b ≡ record { reply = station (length (s .rom)) (length (s .sheet)) (records s); buffers = filled s b }
+pub read-so : (xs : List ℕ) (s : Station) (rest : List ℕ) (b : Buffers) → loadOf xs ≡ got s rest → fitsIn s b ≡ true
+    → readOf xs b ≡ record { reply = station (length (s .rom)) (length (s .sheet) / 2) (records s); buffers = filled s b }
 unfolding readOf
-read-so form xs s rest b p f = ap (λ (r : Reading Station). placed r b) p ∙ rw f
+read-so xs s rest b p f = ap (λ (r : Reading Station). placed r b) p ∙ rw f

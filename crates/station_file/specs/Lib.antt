@@ -1,5 +1,6 @@
 pub mod Reading
 pub mod Station
+pub mod Forms
 pub mod Read
 pub mod Write
 pub mod Parts

@@ -6,15 +6,15 @@ use mathlib.Core.List.{List, []}
 use Prim.Native.Nat.{ℕ}
 use lib.ListN.{length}
 use Rattle.station_file.specs.Reading.{got}
-use Rattle.station_file.specs.Station.{Form, Station, romCount, sheetCount, entryByte, inputByte, parseOf}
-use Rattle.station_file.specs.Write.{everyAt, below, inputCount, renderOf}
+use Rattle.station_file.specs.Station.{Form, Station, romCount, entryByte, inputByte, parseOf}
+use Rattle.station_file.specs.Write.{everyAt, below, sheetLength, inputCount, renderOf}
 
 module _ (form : Form) where
   -- a station that the writer takes: each of its tests passes
   pub record Sound (s : Station) : Type 0 where
     pub words : romCount (length (s .rom)) ≡ true
-    pub sheet : sheetCount (length (s .rom)) (length (s .sheet)) ≡ true
-    pub entries : everyAt entryByte 0 (s .sheet) ≡ true
+    pub sheet : sheetLength form (length (s .rom)) (length (s .sheet)) ≡ true
+    pub entries : everyAt (entryByte form (s .sheet)) 0 (s .sheet) ≡ true
     pub inputs : inputCount form (s .inputs) ≡ true
     pub bytes : everyAt inputByte 0 (s .inputs) ≡ true
 

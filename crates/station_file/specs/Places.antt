@@ -1,7 +1,7 @@
 -- What the places in a file that the functions inside this crate answer stand for. No promise of a public function cites it.
 -- Assumes nothing.
 use mathlib.Core.Path.{_≡_}
-use mathlib.Core.Bool.{Bool}
+use mathlib.Core.Bool.{Bool, cond}
 use mathlib.Core.List.{List, [], _∷_, _++_}
 use Prim.Native.Nat.{ℕ, zero, suc, _+_, _-_, _*_, _<_, _≤_}
 use lib.Dec.{eqb}
@@ -34,7 +34,7 @@ words zero xs = []
 words (suc n) xs = (getD xs 0 0 * 256 + getD xs 1 0) ∷ words n (drop 2 xs)
 
 abbrev pub formOf : Form → station.Form
-formOf f = record { number = f .number; countBytes = 2; mostInputs = f .most }
+formOf f = record { number = f .number; entryBytes = cond (f .paired) 2 1; countBytes = 2; mostInputs = f .most }
 
 -- the parts of parseOf
 abbrev pub formSection : station.Form → List ℕ → Reading ℕ
@@ -43,7 +43,7 @@ formSection form xs = tested (λ (n : ℕ). eqb n (form .number)) 20 (number 2 x
 unfoldable pub afterForm : station.Form → List ℕ → Reading Station
 afterForm form a =
     andThen (romSection a) (λ (rom : List ℕ) (b : List ℕ).
-    andThen (sheetSection (length rom) b) (λ (sheet : List ℕ) (c : List ℕ).
+    andThen (sheetSection form (length rom) b) (λ (sheet : List ℕ) (c : List ℕ).
     andThen (inputSection form c) (λ (inputs : List ℕ) (d : List ℕ).
     ended (record { rom = rom; sheet = sheet; inputs = inputs }) d)))
 
@@ -73,15 +73,16 @@ module _ (file : List ℕ) where
   wordsIn (section.Good count start next) = got (words count (drop start file)) (drop next file)
   wordsIn (section.Refused f) = refused (fileNumber f)
 
-  abbrev pub stationIn : Layout → Reading Station
-  stationIn (layout.Station words₁ romAt entries sheetAt records inputsAt) =
-      got (record { rom = words words₁ (drop romAt file); sheet = take entries (drop sheetAt file); inputs = take (11 * records) (drop inputsAt file) }) []
-  stationIn (layout.Refused f) = refused (fileNumber f)
+  -- with so many bytes an entry
+  abbrev pub stationIn : ℕ → Layout → Reading Station
+  stationIn width (layout.Station words₁ romAt entries sheetAt records inputsAt) =
+      got (record { rom = words words₁ (drop romAt file); sheet = take (width * entries) (drop sheetAt file); inputs = take (11 * records) (drop inputsAt file) }) []
+  stationIn width (layout.Refused f) = refused (fileNumber f)
 
-  abbrev pub LayoutFits : Layout → Type 0
-  LayoutFits (layout.Station words₁ romAt entries sheetAt records inputsAt) =
-      (romAt + 2 * words₁ ≤ length file) × (sheetAt + entries ≤ length file) × (inputsAt + 11 * records ≤ length file)
-  LayoutFits (layout.Refused f) = Unit
+  abbrev pub LayoutFits : ℕ → Layout → Type 0
+  LayoutFits width (layout.Station words₁ romAt entries sheetAt records inputsAt) =
+      (romAt + 2 * words₁ ≤ length file) × (sheetAt + width * entries ≤ length file) × (inputsAt + 11 * records ≤ length file)
+  LayoutFits width (layout.Refused f) = Unit
 
 abbrev pub opened : Form → List ℕ → Opening → Reading ℕ
 opened form file (opening.At next) = got (form .number) (drop next file)
@@ -116,7 +117,7 @@ testNumber (test.Refused f) = fileNumber f
 
 -- what keeps the sum of the lengths of a tested station small
 abbrev pub TestFits : List ℕ → List ℕ → Test → Type 0
-TestFits rom sheet test.Passed = (length rom ≤ 1024) × (length sheet ≤ 1024)
+TestFits rom sheet test.Passed = (length rom ≤ 1024) × (length sheet ≤ 2048)
 TestFits rom sheet (test.Refused f) = Unit
 
 -- the refusal of an answer that has one

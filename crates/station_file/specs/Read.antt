@@ -8,13 +8,14 @@ use lib.Dec.{leb}
 use lib.ListN.{length, drop}
 use Rattle.station_file.specs.Reading as reading
 use Rattle.station_file.specs.Reading.{Reading}
-use Rattle.station_file.specs.Station.{Form, Station, recordBytes, parseOf}
+use Rattle.station_file.specs.Station.{Station, recordBytes}
+use Rattle.station_file.specs.Forms.{loadOf}
 
 -- "Places past what is written stay"
 abbrev pub overlay : List ℕ → List ℕ → List ℕ
 overlay xs buffer = xs ++ drop (length xs) buffer
 
--- the lent buffers
+-- the lent buffers; the sheet's has two bytes an entry
 pub record Buffers : Type 0 where
   pub rom : List ℕ
   pub sheet : List ℕ
@@ -43,9 +44,9 @@ unread n b = record { reply = refused n; buffers = b }
 abbrev pub placed : Reading Station → Buffers → Read
 placed (reading.got s rest) b =
     cond (fitsIn s b)
-    (record { reply = station (length (s .rom)) (length (s .sheet)) (length (s .inputs) / recordBytes); buffers = filled s b })
+    (record { reply = station (length (s .rom)) (length (s .sheet) / 2) (length (s .inputs) / recordBytes); buffers = filled s b })
     (unread 25 b)
 placed (reading.refused n) b = unread n b
 
-unfoldable pub readOf : Form → List ℕ → Buffers → Read
-readOf form file b = placed (parseOf form file) b
+unfoldable pub readOf : List ℕ → Buffers → Read
+readOf file b = placed (loadOf file) b

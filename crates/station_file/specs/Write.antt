@@ -2,13 +2,14 @@
 -- order (22, 23), then room (25), and when refused writes nothing".
 -- Assumes nothing.
 use mathlib.Core.Path.{_≡_}
-use mathlib.Core.Bool.{Bool, true, _&&_, cond}
+use mathlib.Core.Bool.{Bool, true, _&&_, _||_, cond}
 use mathlib.Core.List.{List, [], _∷_, _++_}
-use Prim.Native.Nat.{ℕ, zero, suc, _/_, _%_, _^_}
+use Prim.Native.Nat.{ℕ, zero, suc, _*_, _/_, _%_, _^_}
 use lib.Dec.{eqb, leb, ltb}
 use lib.ListN.{length}
 use Rattle.station_file.specs.Read.{overlay}
-use Rattle.station_file.specs.Station.{entryByte, Form, Station, recordBytes, inputByte, romCount, sheetCount}
+use Rattle.station_file.specs.Station.{entryByte, Form, form2, Station, recordBytes, inputByte, romCount}
+use Rattle.station_file.specs.Forms.{doubled, inFile, lowestForm}
 
 -- a number in so many bytes, high byte first
 abbrev pub bytesOf : ℕ → ℕ → List ℕ
@@ -28,7 +29,7 @@ unfoldable pub renderOf : Form → Station → List ℕ
 renderOf form s =
     bytesOf 2 (form .number)
     ++ bytesOf 2 (length (s .rom)) ++ wordBytes (s .rom)
-    ++ bytesOf 2 (length (s .sheet)) ++ s .sheet
+    ++ bytesOf 2 (length (s .sheet) / form .entryBytes) ++ s .sheet
     ++ bytesOf (form .countBytes) (records s) ++ s .inputs
 
 -- a test at each element, by its index
@@ -40,6 +41,10 @@ everyAt ok k (x ∷ xs) = ok k x && everyAt ok (suc k) xs
 abbrev pub below : ℕ → List ℕ → Type 0
 below n xs = everyAt (λ (k : ℕ) (x : ℕ). ltb x n) 0 xs ≡ true
 
+-- an entry for each word, or none at all
+abbrev pub sheetLength : Form → ℕ → ℕ → Bool
+sheetLength form words n = eqb n 0 || eqb n (form .entryBytes * words)
+
 abbrev pub inputCount : Form → List ℕ → Bool
 inputCount form xs = eqb (length xs % recordBytes) 0 && leb (length xs / recordBytes) (form .mostInputs)
 
@@ -47,8 +52,8 @@ inputCount form xs = eqb (length xs % recordBytes) 0 && leb (length xs / recordB
 unfoldable pub stationRefusal : Form → Station → ℕ
 stationRefusal form s =
     cond (romCount (length (s .rom)))
-    (cond (sheetCount (length (s .rom)) (length (s .sheet)))
-    (cond (everyAt entryByte 0 (s .sheet))
+    (cond (sheetLength form (length (s .rom)) (length (s .sheet)))
+    (cond (everyAt (entryByte form (s .sheet)) 0 (s .sheet))
     (cond (inputCount form (s .inputs))
     (cond (everyAt inputByte 0 (s .inputs)) 0 23) 22) 23) 22) 22
 
@@ -65,10 +70,17 @@ pub record Write : Type 0 where
 abbrev pub unwritten : ℕ → List ℕ → Write
 unwritten n out = record { reply = refused n; out = out }
 
-unfoldable pub writeOf : Form → Station → List ℕ → Write
-writeOf form s out =
-    cond (eqb (stationRefusal form s) 0)
-    (cond (leb (length (renderOf form s)) (length out))
-    (record { reply = wrote (length (renderOf form s)); out = overlay (renderOf form s) out })
-    (unwritten 25 out))
-    (unwritten (stationRefusal form s) out)
+-- "then room (25)"
+abbrev pub putOf : List ℕ → List ℕ → Write
+putOf bytes out = cond (leb (length bytes) (length out)) (record { reply = wrote (length bytes); out = overlay bytes out }) (unwritten 25 out)
+
+-- the one file that is written for a station
+unfoldable pub fileOf : Station → List ℕ
+fileOf s = renderOf (lowestForm s) (inFile (lowestForm s) s)
+
+unfoldable pub writeOf : Station → List ℕ → Write
+writeOf s out = cond (eqb (stationRefusal form2 s) 0) (putOf (fileOf s) out) (unwritten (stationRefusal form2 s) out)
+
+-- a sheet of single levels, made into one of ranges
+unfoldable pub widenOf : List ℕ → List ℕ → Write
+widenOf levels out = putOf (doubled levels) out

@@ -3,6 +3,7 @@ ghost use mathlib.Core.Path.{_≡_};
 ghost use Rattle.station_file.specs.Answers.{fileNumber};
 
 mod copies;
+mod forms;
 mod limits;
 mod reader;
 mod scan;
@@ -10,6 +11,7 @@ mod sections;
 mod two_bytes;
 mod writer;
 
+pub use copies::widen;
 pub use reader::read;
 pub use writer::write;
 
@@ -57,6 +59,8 @@ pub enum Written {
 // What differs between the forms of the file that have two-byte counts.
 struct Form {
     number: usize,
+    // Two bytes an entry, and not one.
+    paired: bool,
     most: usize,
 }
 

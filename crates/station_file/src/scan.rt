@@ -5,11 +5,16 @@ ghost use mathlib.Core.Bool.{true};
 ghost use Prim.Native.Nat.{_+_, _≤_};
 ghost use lib.ListN.{length, drop};
 ghost use Rattle.station_file.specs.Reading.{fields};
-ghost use Rattle.station_file.specs.Station.{inputByte, entryField, inputField};
-ghost use Rattle.station_file.specs.Places.{scanned, ScanFits, Passed, RecordGood};
+ghost use Rattle.sheet.specs.Entry.{proper};
+ghost use Rattle.station_file.specs.Station.{mostLevel, inputByte, entryTo, entryField, inputField};
+ghost use Rattle.station_file.specs.Places.{formOf, scanned, ScanFits, Passed, RecordGood};
 use crate::FileRefusal;
+use crate::Form;
 use crate::Test;
+use crate::forms::entry_bytes;
+use sheet::Entry;
 use sheet::is_proper;
+use sheet::single;
 
 // The highest level of a sheet in a file.
 const MOST_LEVEL: u8 = 5;
@@ -24,20 +29,40 @@ fn proper_input(index: usize, byte: u8) -> bool
     byte < 16
 }
 
-pub(crate) fn entries(bytes: &[u8], at: usize, count: usize) -> Test
+// The byte at an index of a sheet, with the one before it: a level or 15, or the highest level of an entry.
+fn proper_entry(form: Form, before: u8, index: usize, byte: u8) -> bool
+    ensures { λ r. ⌜ r ≡ proper mostLevel (entryTo (formOf form) before index byte) ⌝ }
+{
+    if index % entry_bytes(form) == 0 {
+        return is_proper(MOST_LEVEL, single(byte));
+    }
+    is_proper(
+        MOST_LEVEL,
+        Entry {
+            lowest: before,
+            highest: byte,
+        },
+    )
+}
+
+// So many bytes of a sheet.
+pub(crate) fn entries(bytes: &[u8], at: usize, count: usize, form: Form) -> Test
     requires { ⌜ at ≤ length (now bytes) ⌝ }
-    ensures { λ r. ⌜ scanned (now (bytes .entry)) at count r ≡ fields entryField 0 count (drop at (now (bytes .entry))) ⌝ }
+    ensures { λ r. ⌜ scanned (now (bytes .entry)) at count r ≡ fields (entryField (formOf form) (drop at (now (bytes .entry)))) 0 count (drop at (now (bytes .entry))) ⌝ }
     ensures { λ r. ⌜ ScanFits (now (bytes .entry)) at count r ⌝ }
 {
     let mut index = 0;
     let mut next = at;
+    let mut before: u8 = 0;
     while index < count {
         if bytes.len() <= next {
             return Test::Refused(FileRefusal::Early);
         }
-        if !is_proper(MOST_LEVEL, bytes[next]) {
+        let byte = bytes[next];
+        if !proper_entry(form, before, index, byte) {
             return Test::Refused(FileRefusal::Entry);
         }
+        before = byte;
         index += 1;
         next += 1;
     }

@@ -11,6 +11,7 @@ use crate::Number;
 use crate::Opening;
 use crate::Section;
 use crate::Test;
+use crate::forms::entry_bytes;
 use crate::limits::rom_count;
 use crate::limits::sheet_count;
 use crate::scan;
@@ -46,10 +47,10 @@ fn rom_section(file: &[u8], at: usize) -> Section
     Section::Good(count, start, start + 2 * count)
 }
 
-fn sheet_section(file: &[u8], at: usize, words: usize) -> Section
+fn sheet_section(file: &[u8], at: usize, words: usize, form: Form) -> Section
     requires { ⌜ at ≤ length (now file) ⌝ }
-    ensures { λ r. ⌜ bytesIn 1 (now (file .entry)) r ≡ sheetSection words (drop at (now (file .entry))) ⌝ }
-    ensures { λ r. ⌜ SectionFits 1 (now (file .entry)) r ⌝ }
+    ensures { λ r. ⌜ bytesIn ((formOf form) .entryBytes) (now (file .entry)) r ≡ sheetSection (formOf form) words (drop at (now (file .entry))) ⌝ }
+    ensures { λ r. ⌜ SectionFits ((formOf form) .entryBytes) (now (file .entry)) r ⌝ }
 {
     let Number::Is(count, start) = read_number(file, at) else {
         return Section::Refused(FileRefusal::Early);
@@ -57,9 +58,10 @@ fn sheet_section(file: &[u8], at: usize, words: usize) -> Section
     if !sheet_count(words, count) {
         return Section::Refused(FileRefusal::Count);
     }
-    match scan::entries(file, start, count) {
-        Test::Refused(refusal) => Section::Refused(refusal),
-        Test::Passed => Section::Good(count, start, start + count),
+    let bytes = entry_bytes(form) * count;
+    match scan::entries(file, start, bytes, form) {
+        Test::Refused(fault) => Section::Refused(fault),
+        Test::Passed => Section::Good(count, start, start + bytes),
     }
 }
 
@@ -91,14 +93,14 @@ fn section_refusal(section: Section) -> FileRefusal
 
 fn after_form(file: &[u8], at: usize, form: Form) -> Layout
     requires { ⌜ at ≤ length (now file) ⌝ }
-    ensures { λ r. ⌜ stationIn (now (file .entry)) r ≡ afterForm (formOf form) (drop at (now (file .entry))) ⌝ }
-    ensures { λ r. ⌜ LayoutFits (now (file .entry)) r ⌝ }
+    ensures { λ r. ⌜ stationIn (now (file .entry)) ((formOf form) .entryBytes) r ≡ afterForm (formOf form) (drop at (now (file .entry))) ⌝ }
+    ensures { λ r. ⌜ LayoutFits (now (file .entry)) ((formOf form) .entryBytes) r ⌝ }
 {
     let rom = rom_section(file, at);
     let Section::Good(words, rom_at, sheet_from) = rom else {
         return Layout::Refused(section_refusal(rom));
     };
-    let sheet = sheet_section(file, sheet_from, words);
+    let sheet = sheet_section(file, sheet_from, words, form);
     let Section::Good(entries, sheet_at, inputs_from) = sheet else {
         return Layout::Refused(section_refusal(sheet));
     };
@@ -121,8 +123,8 @@ fn after_form(file: &[u8], at: usize, form: Form) -> Layout
 
 // Where each section of a file lies, or the file's first refusal.
 pub(crate) fn parse(file: &[u8], form: Form) -> Layout
-    ensures { λ r. ⌜ stationIn (now (file .entry)) r ≡ parseOf (formOf form) (now (file .entry)) ⌝ }
-    ensures { λ r. ⌜ LayoutFits (now (file .entry)) r ⌝ }
+    ensures { λ r. ⌜ stationIn (now (file .entry)) ((formOf form) .entryBytes) r ≡ parseOf (formOf form) (now (file .entry)) ⌝ }
+    ensures { λ r. ⌜ LayoutFits (now (file .entry)) ((formOf form) .entryBytes) r ⌝ }
 {
     match form_section(file, form) {
         Opening::Refused(refusal) => Layout::Refused(refusal),

@@ -1,9 +1,9 @@
 -- What is written is read back: fields, a section, and the whole file.
 -- Assumes nothing.
-use mathlib.Core.Path.{_≡_, ap, refl}
+use mathlib.Core.Path.{_≡_, _∙_, ap, refl, sym}
 use mathlib.Core.Bool.{Bool, true}
 use mathlib.Core.List.{List, [], _∷_, _++_, append-assoc, append-nil}
-use Prim.Native.Nat.{ℕ, suc, _*_, _^_, _<_}
+use Prim.Native.Nat.{ℕ, suc, _*_, _/_, _^_, _<_}
 use native.Mathlib.Omega.{arith}
 use borrow.Author.Tests.{ltb-true, eq-eqb, le-leb}
 use lib.Dec.{ltb, leb}
@@ -15,7 +15,8 @@ use Rattle.station_file.specs.Station.{Form, Station, recordBytes, romCount, sh
 use Rattle.station_file.specs.Write.{bytesOf, wordBytes, everyAt, below, records, renderOf}
 use Rattle.station_file.proofs.Counted.{Codec, words, bytes, section}
 use Rattle.station_file.proofs.Digits.{number-back}
-use Rattle.station_file.proofs.Soundness.{few-words, few-entries, whole-records, few-records}
+use Rattle.station_file.proofs.Local.{entryBytesOf, entries-same, sheet-section}
+use Rattle.station_file.proofs.Soundness.{few-words, sheet-entries, entries-bound, count-of, whole-records, few-records}
 use Rattle.station_laws.specs.RoundTrip.{Fits}
 
 -- a value that passes a test is read back
@@ -48,11 +49,17 @@ module _ (form : Form) (fits : Fits form) (s : Station) (g : Sound form s) where
   rom-back rest w =
       section-back words isWord words-restored 2 romCount (λ (n : ℕ). n) (length (s .rom)) (s .rom) rest (omega (arith, few-words form s g)) (g .words) refl w
 
-  sheet-back : (rest : List ℕ) → sheetSection (length (s .rom)) (bytesOf 2 (length (s .sheet)) ++ (s .sheet ++ rest)) ≡ got (s .sheet) rest
-  unfolding sheetSection
+  -- the entries are counted, and their test looks at no byte after them
+  sheet-back : (rest : List ℕ) → sheetSection form (length (s .rom)) (bytesOf 2 (length (s .sheet) / form .entryBytes) ++ (s .sheet ++ rest)) ≡ got (s .sheet) rest
   sheet-back rest =
-      section-back (bytes entryByte) entryByte (bytes-restored entryByte) 2 (sheetCount (length (s .rom))) (λ (n : ℕ). n) (length (s .sheet)) (s .sheet) rest
-      (omega (arith, few-entries form s g)) (g .sheet) refl (g .entries)
+      let e = sheet-entries form s g in
+      let n : length (s .sheet) / form .entryBytes ≡ e .count = count-of (fits .entry) (e .whole) in
+      let good : everyAt (entryByte form (s .sheet ++ rest)) 0 (s .sheet) ≡ true = sym (entries-same form (s .sheet) rest) ∙ g .entries in
+      rw n
+      (sheet-section form (length (s .rom)) (bytesOf 2 (e .count) ++ (s .sheet ++ rest))
+      ∙ section-back (bytes (entryByte form (s .sheet ++ rest))) (entryByte form (s .sheet ++ rest)) (bytes-restored (entryByte form (s .sheet ++ rest))) 2
+      (sheetCount (length (s .rom))) (entryBytesOf form (length (s .rom))) (e .count) (s .sheet) rest
+      (omega (arith, entries-bound (length (s .rom)) (e .count) (e .counted), few-words form s g)) (e .counted) (e .whole) good)
 
   inputs-back : (rest : List ℕ) → inputSection form (bytesOf (form .countBytes) (records s) ++ (s .inputs ++ rest)) ≡ got (s .inputs) rest
   unfolding inputSection
@@ -69,10 +76,10 @@ module _ (form : Form) (fits : Fits form) (s : Station) (g : Sound form s) where
   unfolding parseOf renderOf
   file-back w =
       let i = bytesOf (form .countBytes) (records s) ++ (s .inputs ++ []) in
-      let t = bytesOf 2 (length (s .sheet)) ++ (s .sheet ++ i) in
+      let t = bytesOf 2 (length (s .sheet) / form .entryBytes) ++ (s .sheet ++ i) in
       let r = bytesOf 2 (length (s .rom)) ++ (wordBytes (s .rom) ++ t) in
       rw (
-        nested (bytesOf 2 (form .number)) (bytesOf 2 (length (s .rom))) (wordBytes (s .rom)) (bytesOf 2 (length (s .sheet))) (s .sheet) (bytesOf (form .countBytes) (records s)) (s .inputs),
+        nested (bytesOf 2 (form .number)) (bytesOf 2 (length (s .rom))) (wordBytes (s .rom)) (bytesOf 2 (length (s .sheet) / form .entryBytes)) (s .sheet) (bytesOf (form .countBytes) (records s)) (s .inputs),
         number-back 2 (form .number) r (fits .number),
         eq-eqb (form .number) (form .number) refl,
         rom-back t w,

@@ -1,5 +1,6 @@
 pub mod Back
 pub mod RoundTrip
+pub mod Stations
 pub mod ReadWrite
 pub mod Sizes
 pub mod Checkable

@@ -1,8 +1,8 @@
--- The theorems of specs/ReadWrite.antt, from those of specs/RoundTrip.antt.
+-- The theorems of specs/ReadWrite.antt, from those of specs/Stations.antt.
 -- Assumes nothing.
 use mathlib.Core.Path.{_≡_, _∙_, ap, refl}
 use mathlib.Core.Bool.{Bool, true, false, cond}
-use mathlib.Core.List.{List}
+use mathlib.Core.List.{List, []}
 use Prim.Native.Nat.{ℕ, _*_, _/_, _^_, _≤_}
 use native.Mathlib.Omega.{arith}
 use borrow.Author.Tests.{eqb-true, le-leb}
@@ -11,14 +11,16 @@ use lib.ListN.{length, take}
 use Rattle.station_file.specs.Read as read
 use Rattle.station_file.specs.Read.{Buffers, Read, station, overlay, fitsIn, filled, placed, readOf}
 use Rattle.station_file.specs.Reading.{Reading, got, refused}
-use Rattle.station_file.specs.Station.{Form, Station, form1, recordBytes, parseOf}
+use Rattle.station_file.specs.Station.{form2, Station, recordBytes}
+use Rattle.station_file.specs.Forms.{formFor, lowestForm, loadOf}
+use Rattle.station_file.specs.Parts.{Sound}
 use Rattle.station_file.specs.Write as write
-use Rattle.station_file.specs.Write.{below, records, wrote, renderOf, stationRefusal, writeOf}
+use Rattle.station_file.specs.Write.{below, records, wrote, stationRefusal, fileOf, writeOf}
 use Rattle.station_laws.specs.ReadWrite.{front, ReadWrite}
 use Rattle.station_file.proofs.Overlaid.{overlay-front, read-so}
-use Rattle.station_file.proofs.Soundness.{sound-of, whole-records}
-use Rattle.station_laws.specs.RoundTrip.{RoundTrip}
-use Rattle.station_laws.proofs.RoundTrip.{round-trip-1}
+use Rattle.station_file.proofs.Soundness.{unrefused, sheet-entries, whole-records}
+use Rattle.station_file.proofs.InForms.{read-sound}
+use Rattle.station_laws.proofs.Stations.{loads-back, same}
 
 -- an answer that is no refusal came by both tests
 wrote-parts : (a b : Bool) (f n : ℕ) (text out : List ℕ)
@@ -35,11 +37,11 @@ record Parts (r : Reading Station) (b : Buffers) (words entries count : ℕ) : T
   is : r ≡ got s rest
   room : fitsIn s b ≡ true
   rom : length (s .rom) ≡ words
-  sheet : length (s .sheet) ≡ entries
+  sheet : length (s .sheet) / 2 ≡ entries
   inputs : length (s .inputs) / recordBytes ≡ count
 
 filled-parts : (c : Bool) (s : Station) (rest : List ℕ) (b : Buffers) (words entries count : ℕ) → fitsIn s b ≡ c
-    → (cond c (record { reply = station (length (s .rom)) (length (s .sheet)) (length (s .inputs) / recordBytes); buffers = filled s b }) (read.unread 25 b)) .reply
+    → (cond c (record { reply = station (length (s .rom)) (length (s .sheet) / 2) (length (s .inputs) / recordBytes); buffers = filled s b }) (read.unread 25 b)) .reply
     ≡ station words entries count → Parts (got s rest) b words entries count
 filled-parts true s rest b words entries count f e =
     record { s = s; rest = rest; is = refl; room = f; rom = (cc); sheet = (cc); inputs = (cc) }
@@ -49,45 +51,48 @@ parts : (r : Reading Station) (b : Buffers) (words entries count : ℕ) → (pla
 parts (got s rest) b words entries count e = filled-parts (fitsIn s b) s rest b words entries count refl e
 parts (refused n) b words entries count e = absurd (let z : _≡_ {A = ℕ} 0 1 = cc in omega arith)
 
-module _ (form : Form) (laws : RoundTrip form) where
-  wrote-it : (s : Station) (out : List ℕ) → stationRefusal form s ≡ 0 → length (renderOf form s) ≤ length out
-      → writeOf form s out ≡ record { reply = wrote (length (renderOf form s)); out = overlay (renderOf form s) out }
-  unfolding writeOf
-  wrote-it s out e h = rw (e, le-leb (length (renderOf form s)) (length out) h)
+wrote-it : (s : Station) (out : List ℕ) → stationRefusal form2 s ≡ 0 → length (fileOf s) ≤ length out
+    → writeOf s out ≡ record { reply = wrote (length (fileOf s)); out = overlay (fileOf s) out }
+unfolding writeOf
+wrote-it s out e h = rw (e, le-leb (length (fileOf s)) (length out) h)
 
-  written : (s : Station) (out : List ℕ) (n : ℕ) (b : Buffers) → below (256 ^ 2) (s .rom)
-      → (writeOf form s out) .reply ≡ wrote n → fitsIn s b ≡ true
-      → readOf form (take n ((writeOf form s out) .out)) b
-      ≡ record { reply = station (length (s .rom)) (length (s .sheet)) (records s); buffers = filled s b }
-  unfolding writeOf
-  written s out n b w e f =
-      let text : List ℕ = renderOf form s in
-      let p = wrote-parts (eqb (stationRefusal form s) 0) (leb (length text) (length out)) (stationRefusal form s) n text out e in
-      let good : stationRefusal form s ≡ 0 = eqb-true (stationRefusal form s) 0 (p .0) in
-      rw (p .0, p .1 .0, ← p .1 .1, overlay-front text out) (read-so form text s _ b (laws .written s good w) f)
+written : (s : Station) (out : List ℕ) (n : ℕ) (b : Buffers) → below (256 ^ 2) (s .rom)
+    → (writeOf s out) .reply ≡ wrote n → fitsIn s b ≡ true
+    → readOf (take n ((writeOf s out) .out)) b
+    ≡ record { reply = station (length (s .rom)) (length (s .sheet) / 2) (records s); buffers = filled s b }
+unfolding writeOf
+written s out n b w e f =
+    let text : List ℕ = fileOf s in
+    let p = wrote-parts (eqb (stationRefusal form2 s) 0) (leb (length text) (length out)) (stationRefusal form2 s) n text out e in
+    let good : stationRefusal form2 s ≡ 0 = eqb-true (stationRefusal form2 s) 0 (p .0) in
+    rw (p .0, p .1 .0, ← p .1 .1, overlay-front text out) (read-so text s [] b (loads-back s good w) f)
 
-  -- the station that was read stands at the front of the buffers
-  in-front : (s : Station) (b : Buffers) (words entries count : ℕ) → length (s .rom) ≡ words → length (s .sheet) ≡ entries
-      → length (s .inputs) / recordBytes ≡ count → recordBytes * records s ≡ length (s .inputs) → front words entries count (filled s b) ≡ s
-  in-front s b words entries count r h i whole =
-      let bytes : recordBytes * count ≡ length (s .inputs) = omega arith in
-      rw (← r, ← h, bytes, overlay-front (s .rom) (b .rom), overlay-front (s .sheet) (b .sheet), overlay-front (s .inputs) (b .inputs))
+-- the station that was read stands at the front of the buffers
+in-front : (s : Station) (b : Buffers) (words entries count : ℕ) → length (s .rom) ≡ words → length (s .sheet) / 2 ≡ entries
+    → length (s .inputs) / recordBytes ≡ count → Sound form2 s → front words entries count (filled s b) ≡ s
+in-front s b words entries count r h i g =
+    let levels : 2 * entries ≡ length (s .sheet) = omega (arith, sheet-entries form2 s g .whole) in
+    let bytes : recordBytes * count ≡ length (s .inputs) = omega (arith, whole-records form2 s g) in
+    rw (← r, levels, bytes, overlay-front (s .rom) (b .rom), overlay-front (s .sheet) (b .sheet), overlay-front (s .inputs) (b .inputs))
 
-  read-back : (xs : List ℕ) (b : Buffers) (words entries count : ℕ) (out : List ℕ) → below 256 xs
-      → (readOf form xs b) .reply ≡ station words entries count → length xs ≤ length out
-      → writeOf form (front words entries count ((readOf form xs b) .buffers)) out
-      ≡ record { reply = wrote (length xs); out = overlay xs out }
-  unfolding readOf
-  read-back xs b words entries count out small e h =
-      let p = parts (parseOf form xs) b words entries count e in
-      let s : Station = p .s in
-      let good : stationRefusal form s ≡ 0 = laws .good xs s (p .rest) (p .is) in
-      let same : renderOf form s ≡ xs = laws .read xs s (p .rest) small (p .is) in
-      let whole = whole-records form s (sound-of form s good) in
-      ap (λ (x : Read). writeOf form (front words entries count (x .buffers)) out) (read-so form xs s (p .rest) b (p .is) (p .room))
-      ∙ ap (λ (x : Station). writeOf form x out) (in-front s b words entries count (p .rom) (p .sheet) (p .inputs) whole)
-      ∙ wrote-it s out good (rw same h)
-      ∙ ap (λ (x : List ℕ). record { reply = wrote (length x); out = overlay x out }) same
+read-back : (xs : List ℕ) (b : Buffers) (words entries count : ℕ) (out : List ℕ) → below 256 xs
+    → (readOf xs b) .reply ≡ station words entries count → formFor xs ≡ lowestForm (front words entries count ((readOf xs b) .buffers))
+    → length xs ≤ length out
+    → writeOf (front words entries count ((readOf xs b) .buffers)) out
+    ≡ record { reply = wrote (length xs); out = overlay xs out }
+unfolding readOf
+read-back xs b words entries count out small e q h =
+    let p = parts (loadOf xs) b words entries count e in
+    let s : Station = p .s in
+    let sound = read-sound xs s (p .rest) (p .is) in
+    let there : front words entries count ((readOf xs b) .buffers) ≡ s =
+    ap (λ (x : Read). front words entries count (x .buffers)) (read-so xs s (p .rest) b (p .is) (p .room))
+    ∙ in-front s b words entries count (p .rom) (p .sheet) (p .inputs) sound
+    in
+    let file : fileOf s ≡ xs = same xs s (p .rest) (p .is) small (q ∙ ap lowestForm there) in
+    ap (λ (x : Station). writeOf x out) there
+    ∙ wrote-it s out (unrefused form2 s sound) (rw file h)
+    ∙ ap (λ (x : List ℕ). record { reply = wrote (length x); out = overlay x out }) file
 
-pub read-write : ReadWrite form1
-read-write = record { written = written form1 round-trip-1; read = read-back form1 round-trip-1 }
+pub read-write : ReadWrite
+read-write = record { written = written; read = read-back }

@@ -5,7 +5,7 @@ use mathlib.Core.List.{[]}
 use Prim.Native.Nat.{_^_}
 use lib.Dec.{lit<}
 use Rattle.station_file.specs.Reading.{got}
-use Rattle.station_file.specs.Station.{Form, form1, Station, parseOf}
+use Rattle.station_file.specs.Station.{Form, form1, form2, Station, parseOf}
 use Rattle.station_file.specs.Write.{below, renderOf, stationRefusal}
 use Rattle.station_file.proofs.Parts.{taken-apart}
 use Rattle.station_file.proofs.Soundness.{sound-of, unrefused}
@@ -25,14 +25,20 @@ module _ (form : Form) (fits : Fits form) where
   pub round-trip : RoundTrip form
   round-trip = record {
     written = written;
-    good = λ xs s rest e. unrefused form s (taken-apart form xs s rest e .sound);
-    read = λ xs s rest b e. taken-apart form xs s rest e .same b;
+    good = λ xs s rest e. unrefused form s (taken-apart form (fits .entry) xs s rest e .sound);
+    read = λ xs s rest b e. taken-apart form (fits .entry) xs s rest e .same b;
     one = one;
   }
 
--- form 1
-pub fits-1 : Fits form1
-fits-1 = record { number = lit< tt; inputs = lit< tt }
+-- both forms
+fits-1 : Fits form1
+fits-1 = record { number = lit< tt; entry = lit< tt; inputs = lit< tt }
 
 pub round-trip-1 : RoundTrip form1
 round-trip-1 = round-trip form1 fits-1
+
+fits-2 : Fits form2
+fits-2 = record { number = lit< tt; entry = lit< tt; inputs = lit< tt }
+
+pub round-trip-2 : RoundTrip form2
+round-trip-2 = round-trip form2 fits-2

@@ -1,5 +1,5 @@
--- A sheet that was read has no entries, which `station` does not check, or as many as the ROM has words: then the check has no
--- refusal for it, and `station` prints its verdict. Proved in proofs/Checkable.antt.
+-- A sheet that was read is empty, and then `station` does not check it, or has two bytes for each word: then the check has no refusal
+-- for it, and `station` prints its verdict. Proved in proofs/Checkable.antt.
 -- Assumes nothing.
 use mathlib.Core.Path.{_≡_}
 use mathlib.Core.List.{List}
@@ -8,9 +8,10 @@ use Prim.Native.Nat.{ℕ}
 use lib.ListN.{length}
 use Rattle.memory.specs.Chip.{upd17132}
 use Rattle.station_file.specs.Reading.{got}
-use Rattle.station_file.specs.Station.{Station, form1, parseOf}
+use Rattle.station_file.specs.Forms.{loadOf}
+use Rattle.station_file.specs.Station.{Station}
 use Rattle.verifier.specs.Verdict.{refused, verifyOf}
 
 abbrev pub Checkable : Type 0
-Checkable = (xs : List ℕ) (s : Station) (rest : List ℕ) → parseOf form1 xs ≡ got s rest
+Checkable = (xs : List ℕ) (s : Station) (rest : List ℕ) → loadOf xs ≡ got s rest
     → (length (s .sheet) ≡ 0) ⊎ ((n : ℕ) → verifyOf upd17132 (s .rom) (s .sheet) ≡ refused n → ⊥)

@@ -1,4 +1,5 @@
 pub mod RoundTrip
+pub mod Stations
 pub mod ReadWrite
 pub mod Sizes
 pub mod Checkable

@@ -1,4 +1,5 @@
--- Document 01: "Reading a written file gives its station; writing a station that was read gives the file's bytes."
+-- Document 01: "Reading a written file gives its station; writing a station that was read gives the file's bytes", of each form by
+-- itself, with the station as the form has it.
 -- Assumes nothing.
 use mathlib.Core.Path.{_≡_}
 use mathlib.Core.List.{List, []}
@@ -11,6 +12,7 @@ module _ (form : Form) where
   -- the form's numbers fit their fields
   pub record Fits : Type 0 where
     pub number : form .number < 256 ^ 2
+    pub entry : 0 < form .entryBytes
     pub inputs : form .mostInputs < 256 ^ form .countBytes
 
   pub record RoundTrip : Type 0 where

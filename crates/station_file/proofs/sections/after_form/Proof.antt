@@ -26,7 +26,7 @@ returns-2 c =
 input-section-requires : tie.Need-input-section-requires
 input-section-requires c κs =
     let a = c .before .before .before .before .before .before .before .before .before .args in
-    section-fits 1 (a .file .now) (c .before .sheet .given .1) (c .before .before .before .sheet-section .ensures .1) .1
+    section-fits ((formOf (a .form)) .entryBytes) (a .file .now) (c .before .sheet .given .1) (c .before .before .before .sheet-section .ensures .1) .1
 
 returns-3 : tie.Need-returns-3
 returns-3 c =
@@ -58,7 +58,7 @@ returns-5 c =
     let u = c .before .before .before .before .input-section in
     let i = c .before .before .inputs .given .1 in
     let x = section-fits 2 (a .file .now) g (r .ensures .1) in
-    let y = section-fits 1 (a .file .now) h (t .ensures .1) in
+    let y = section-fits ((formOf (a .form)) .entryBytes) (a .file .now) h (t .ensures .1) in
     let z = section-fits 11 (a .file .now) i (u .ensures .1) in
     (ends (formOf (a .form)) (a .file .now) (a .at) (r .ensures .0) g (t .ensures .0) h (u .ensures .0) i (c .if1 .left), (omega (arith, x, y, z), omega (arith, x, y, z), omega (arith, x, y, z)))
 

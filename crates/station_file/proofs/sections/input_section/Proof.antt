@@ -1,12 +1,13 @@
 use mathlib.Core.Path.{refl}
 use mathlib.Core.Bool.{Bool}
+use mathlib.Core.List.{List}
 use Prim.Native.Nat.{ℕ, _*_}
 use native.Mathlib.Omega.{arith}
 use borrow.Author.Needs.{needs}
 use borrow.Author.Tests.{le-leb, lt-leb}
 use lib.Dec.{leb}
-use Rattle.station_file.specs.Station.{inputByte, inputSection}
-use Rattle.station_file.proofs.Counted.{bytes}
+use Rattle.station_file.specs.Reading.{Reading, fields}
+use Rattle.station_file.specs.Station.{inputField, inputSection}
 use Rattle.station_file.proofs.Parsing.{early, miscounted, scan-fails, scan-passes, scan-fits, fits-of}
 use Rattle.station_file.proofs.sections.input_section.Statement.{statement}
 use Rattle.station_file.proofs.sections.input_section.Tie as tie
@@ -14,21 +15,21 @@ use Rattle.station_file.proofs.sections.input_section.Tie as tie
 abbrev few : ℕ → ℕ → Bool
 few most n = leb n most
 
-abbrev eleven : ℕ → ℕ
-eleven n = 11 * n
+abbrev inputsAfter : ℕ → List ℕ → Reading (List ℕ)
+inputsAfter n rest = fields inputField 0 (11 * n) rest
 
 returns : tie.Need-returns
 unfolding inputSection
 returns c =
     let a = c .before .before .before .before .args in
-    (early (bytes inputByte) (few (a .form .most)) eleven (a .file .now) (a .at) (c .before .before .read-number .ensures .0) (c .enum-told .given .1), tt)
+    (early (few (a .form .most)) inputsAfter (a .file .now) (a .at) (c .before .before .read-number .ensures .0) (c .enum-told .given .1), tt)
 
 returns-2 : tie.Need-returns-2
 unfolding inputSection
 returns-2 c =
     let a = c .before .before .before .before .before .before .before .args in
     let r = c .before .before .before .before .before .read-number in
-    (miscounted (bytes inputByte) (few (a .form .most)) eleven (a .file .now) (a .at) (r .ensures .0) (c .before .before .before .count .given .1) (lt-leb _ _ (c .if1 .taken)), tt)
+    (miscounted (few (a .form .most)) inputsAfter (a .file .now) (a .at) (r .ensures .0) (c .before .before .before .count .given .1) (lt-leb _ _ (c .if1 .taken)), tt)
 
 mul-inputs : tie.Need-mul-inputs
 mul-inputs c =
@@ -58,7 +59,7 @@ returns-3 c =
     let r = c .before .before .before .before .before .before .before .before .before .read-number in
     let g = c .before .before .before .before .before .before .before .count .given .1 in
     let good = le-leb _ _ (c .before .before .before .before .if1 .left) in
-    (scan-fails (bytes inputByte) (few (a .form .most)) eleven (a .file .now) (a .at) (r .ensures .0) g good (c .before .refusal .given .1) (c .before .before .before .inputs .ensures .0), tt)
+    (scan-fails (few (a .form .most)) inputsAfter (a .file .now) (a .at) (r .ensures .0) g good _ (c .before .before .before .inputs .ensures .0) (c .before .refusal .given .1), tt)
 
 returns-4 : tie.Need-returns-4
 unfolding inputSection
@@ -68,7 +69,7 @@ returns-4 c =
     let g = c .before .before .before .before .before .before .count .given .1 in
     let good = le-leb _ _ (c .before .before .before .if1 .left) in
     let i = c .before .before .inputs in (
-      scan-passes (bytes inputByte) (few (a .form .most)) eleven (a .file .now) (a .at) (r .ensures .0) g good (c .enum-told2 .given .1) (i .ensures .0),
+      scan-passes (few (a .form .most)) inputsAfter (a .file .now) (a .at) (r .ensures .0) g good _ (i .ensures .0) (c .enum-told2 .given .1),
       (refl, scan-fits (a .file .now) _ _ (c .enum-told2 .given .1) (i .ensures .1)),
     )
 

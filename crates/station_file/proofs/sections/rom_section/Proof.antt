@@ -1,11 +1,9 @@
 use mathlib.Core.Path.{_∙_, refl, sym}
-use Prim.Native.Nat.{ℕ}
 use native.Mathlib.Omega.{arith}
 use borrow.Author.Needs.{needs}
 use borrow.Author.Tests.{not-true, not-false}
 use Rattle.station_file.specs.Station.{romCount, romSection}
-use Rattle.station_file.proofs.Counted.{words}
-use Rattle.station_file.proofs.Parsing.{early, miscounted, words-short, words-whole, fits-of}
+use Rattle.station_file.proofs.Parsing.{early, miscounted, wordsAfter, words-short, words-whole, fits-of}
 use Rattle.station_file.proofs.sections.rom_section.Statement.{statement}
 use Rattle.station_file.proofs.sections.rom_section.Tie as tie
 
@@ -13,14 +11,14 @@ returns : tie.Need-returns
 unfolding romSection
 returns c =
     let a = c .before .before .before .before .args in
-    (early words romCount (λ (n : ℕ). n) (a .file .now) (a .at) (c .before .before .read-number .ensures .0) (c .enum-told .given .1), tt)
+    (early romCount wordsAfter (a .file .now) (a .at) (c .before .before .read-number .ensures .0) (c .enum-told .given .1), tt)
 
 returns-2 : tie.Need-returns-2
 unfolding romSection
 returns-2 c =
     let a = c .before .before .before .before .before .before .before .args in
     let r = c .before .before .before .before .before .read-number in
-    (miscounted words romCount (λ (n : ℕ). n) (a .file .now) (a .at) (r .ensures .0) (c .before .before .before .count .given .1) (sym (c .before .rom-count .ensures) ∙ not-true _ (c .if1 .taken)), tt)
+    (miscounted romCount wordsAfter (a .file .now) (a .at) (r .ensures .0) (c .before .before .before .count .given .1) (sym (c .before .rom-count .ensures) ∙ not-true _ (c .if1 .taken)), tt)
 
 sub-if2 : tie.Need-sub-if2
 sub-if2 c =

@@ -1,37 +1,26 @@
-use Rattle.station_file.proofs.Rendering.{sections}
-use native.Mathlib.Omega.{arith}
-use mathlib.Core.Path.{_∙_}
+use mathlib.Core.Path.{_∙_, ap}
+use mathlib.Core.List.{_++_}
+use Prim.Native.Nat.{ℕ, _+_, _*_, _/_}
 use borrow.Author.Needs.{needs}
+use lib.ListN.{length}
+use Rattle.station_file.specs.Places.{splice}
+use Rattle.station_file.specs.Write.{bytesOf}
+use Rattle.station_file.proofs.Rendering.{sections}
 use Rattle.station_file.proofs.writer.put_sections.Statement.{statement}
 use Rattle.station_file.proofs.writer.put_sections.Tie as tie
 
-put-number-requires : tie.Need-put-number-requires
-put-number-requires c κs = omega (arith, c .before .before .before .before .before .pre)
-
-put-rom-requires : tie.Need-put-rom-requires
-put-rom-requires c κs = omega (arith, c .before .before .before .before .before .before .before .before .before .pre, c .before .before .before .put-number .kept .1 .0)
-
-put-bytes-requires : tie.Need-put-bytes-requires
-put-bytes-requires c κs = omega (arith, c .before .before .before .before .before .before .before .before .before .before .before .before .before .pre, c .before .before .before .before .before .before .before .put-number .kept .1 .0, c .before .before .before .put-rom .kept .1 .0)
-
-put-bytes-requires-2 : tie.Need-put-bytes-requires-2
-put-bytes-requires-2 c κs = omega (arith, c .before .before .before .before .before .before .before .before .before .before .before .before .before .before .before .before .before .pre, c .before .before .before .before .before .before .before .before .before .before .before .put-number .kept .1 .0, c .before .before .before .before .before .before .before .put-rom .kept .1 .0, c .before .before .before .put-bytes .kept .1 .1 .0)
-
-same-length : tie.Need-same-length
-same-length c = c .before .before .put-bytes2 .kept .1 .1 .0 ∙ c .before .before .before .before .before .before .put-bytes .kept .1 .1 .0 ∙ c .before .before .before .before .before .before .before .before .before .before .put-rom .kept .1 .0 ∙ c .before .before .before .before .before .before .before .before .before .before .before .before .before .before .put-number .kept .1 .0
-
 returns : tie.Need-returns
 returns c =
-    let s = c .before .before .before .before .before .before .before .before .before .before .before .before .before .before .before .before .before .before .before .before in
+    let s = c .before .before .before .before .before .before .before .before .before .before .before .before .before .before .before .before .before .before .before .before .before in
     let a = s .args in
     let n = c .before .before .before .before .before .before .before .before .before .before .before .before .before .before .put-number in
     let r = c .before .before .before .before .before .before .before .before .before .before .put-rom in
-    let b = c .before .before .before .before .before .before .put-bytes in
-    let i = c .before .before .put-bytes2 in
-    sections (a .rom .now) (a .sheet .now) (a .inputs .now) (a .form) (a .out .now) (n .last .1 .0) (r .last .1 .0) (b .last .1 .1 .0) (i .last .1 .1 .0) (s .pre) (n .ensures) (r .ensures) (b .ensures) (i .ensures)
+    let b = c .before .before .before .before .before .before .put-sheet in
+    let i = c .before .before .put-bytes in
+    let there = ap (λ (k : ℕ). splice (4 + 2 * length (a .rom .now) + 2 + k) (bytesOf 2 (length (a .inputs .now) / 11) ++ a .inputs .now) (b .last .1 .1 .0)) (c .before .before .before .before .before .before .before .before .before .before .before .before .before .before .before .before .packed-length .ensures) in
+    sections (a .rom .now) (a .sheet .now) (a .inputs .now) (a .form) (a .out .now) (n .last .1 .0) (r .last .1 .0) (b .last .1 .1 .0) (i .last .1 .1 .0) (s .pre) (n .ensures) (r .ensures) (b .ensures) (i .ensures ∙ there)
 
 pub put-sections-spec : {M : Type 1} → statement M
 put-sections-spec =
     tie.close
-    (tie.spec (λ c. search needs) (λ c. search needs) (λ c. search needs) (λ c. search needs) put-number-requires
-    put-rom-requires put-bytes-requires put-bytes-requires-2 same-length returns)
+    (tie.spec (λ c. search needs) (λ c. search needs) (λ c. search needs) (λ c κs. search needs) (λ c. search needs) (λ c κs. search needs) (λ c κs. search needs) (λ c κs. search needs) (λ c κs. search needs) (λ c. search needs) returns)
