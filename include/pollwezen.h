@@ -1,11 +1,11 @@
 /* Pollwezen: the uPD17132 and the uPD17120 for a host program in C. Link libpollwezen.a, which `rt staticlib pollwezen` writes.
  * The contracts are in crates/pollwezen/src/lib.rt; the definitions that they cite in the folders specs of crates/memory,
- * crates/peripherals, crates/machine and crates/cpu (record, step, run), crates/verifier and crates/clearance (the check), crates/listing (words),
- * crates/station_file, crates/transcript and crates/pollwezen.
+ * crates/peripherals, crates/machine and crates/cpu (record, step, run), crates/sheet, crates/clearance and crates/verifier (the
+ * check), crates/listing (words), crates/station_file, crates/transcript and crates/pollwezen.
  * The caller keeps what C asks of any call: pointers to as many elements as said, and a lent record or buffer that no other
  * argument overlaps. Where a length is 0 its pointer may be NULL, as tested; that of a lent record may not. Whatever stands in
  * them is answered or refused. No buffer is written past its length, and none is kept.
- * The library allocates nothing. As measured, pollwezen_transcript needs at most 50,000 bytes of stack and every other entry
+ * The library allocates nothing. As measured, pollwezen_transcript needs at most 51,000 bytes of stack and every other entry
  * 1,200, beside what the system's linker takes at a first call of memcpy or memset. */
 #ifndef POLLWEZEN_H
 #define POLLWEZEN_H
@@ -39,12 +39,12 @@ extern "C" {
  *    7  stack empty
  *    8  MOVT past the ROM
  *   31  a missing cell read or written: on the 17120 one of 40H to 6EH (after 8)
- *    9  the sheet has not the ROM's length
+ *    9  the sheet has not two bytes for each word of the ROM
  *   10  an operand too large for its field, or one that the row does not have
- *   20  form number of a file other than 1
+ *   20  form number of a file other than 1 and 2
  *   21  the file ends too early
  *   22  a count that is not allowed
- *   23  an entry or input out of range
+ *   23  an entry or input out of range, or an entry that is no range
  *   24  bytes after the end
  *   25  the lent buffer is too short */
 
@@ -54,10 +54,17 @@ extern "C" {
 #define POLLWEZEN_17132 0
 #define POLLWEZEN_17120 1
 
+/* The level sheet has an entry for each word of the ROM: two bytes, the lowest and then the highest number of calls that may be open
+ * there, 0 to 5 each and the lowest not above the highest, or POLLWEZEN_UNREACHED twice for a word that is never reached. Every
+ * function below takes and gives a sheet so, with its length in bytes. Two counts are in entries: that in pollwezen_read's reply, and
+ * that of pollwezen_widen, whose levels are one byte each. A sheet of one level a word goes through it first. */
+#define POLLWEZEN_UNREACHED 15
+
 /* The most that a station file has, and what its text never exceeds. Buffers of these sizes are never too short. */
 #define POLLWEZEN_WORDS 1024        /* ROM words, and sheet entries */
+#define POLLWEZEN_SHEET_BYTES 2048  /* two bytes an entry */
 #define POLLWEZEN_INPUT_BYTES 45045 /* 4,095 input records of eleven bytes */
-#define POLLWEZEN_FILE_BYTES 48125
+#define POLLWEZEN_FILE_BYTES 49149
 #define POLLWEZEN_TEXT_BYTES 100000 /* the longest text has 89,016 */
 
 /* The machine's record. The skip mark is 0 or 1; the standby mark is 0, or tells HALT and STOP apart. A record from
@@ -110,7 +117,8 @@ typedef struct {
     uint8_t rule;
 } pollwezen_verdict_reply;
 
-/* What the reader answers: how many ROM words, sheet entries and input records it wrote, or a refusal with zeros. */
+/* What the reader answers: how many ROM words, sheet entries (of two bytes) and input records (of eleven) it wrote, or a refusal with
+ * zeros. */
 typedef struct {
     uint8_t number;
     size_t words;
@@ -118,7 +126,7 @@ typedef struct {
     size_t records;
 } pollwezen_read_reply;
 
-/* What the writer and the transcript answer: how many bytes they wrote, or a refusal with 0. */
+/* What the writer, pollwezen_widen and the transcript answer: how many bytes they wrote, or a refusal with 0. */
 typedef struct {
     uint8_t number;
     size_t length;
@@ -165,11 +173,12 @@ uint8_t pollwezen_step(uint8_t model, const uint16_t *rom, size_t words, pollwez
 pollwezen_run_reply pollwezen_run(uint8_t model, const uint16_t *rom, size_t words, pollwezen_machine *machine,
                                   pollwezen_input input, uint8_t pulse, uint32_t budget);
 
-/* The check of a ROM and its sheet, one level a word, for one model: a ROM that passes is run on that model. Refusals: 1 for the model
+/* The check of a ROM and its sheet, two bytes a word, for one model: a ROM that passes is run on that model. Refusals: 1 for the model
  * or the ROM's length, 9 for the sheet's. On the 17132 a ROM that passed is never refused but with 1, for what the host gives. On
- * the 17120 a step of it may also be refused with 31, since which cell an operand names is known only when it runs; PC and open
- * levels are then still the sheet's. */
-pollwezen_verdict_reply pollwezen_verify(uint8_t model, const uint16_t *rom, size_t words, const uint8_t *sheet, size_t entries);
+ * the 17120 a step of it may also be refused with 31, since which cell an operand names is known only when it runs; PC is then still
+ * in the ROM, and the open levels in the range of its entry. */
+pollwezen_verdict_reply pollwezen_verify(uint8_t model, const uint16_t *rom, size_t words, const uint8_t *sheet,
+                                         size_t sheet_bytes);
 
 /* The instruction that a word is. Refusal: 3. */
 pollwezen_decoded_row pollwezen_decode(uint16_t word);
@@ -178,14 +187,22 @@ pollwezen_decoded_row pollwezen_decode(uint16_t word);
  * the row does not have. */
 pollwezen_encoded_row pollwezen_encode(uint8_t row, uint8_t first, uint8_t second, uint16_t addr);
 
-/* Reads a station file to the front of three lent buffers; a sheet of no entries is none. An input record is eleven bytes: five
- * pins, five directions, release. Refusals: 20 to 25, the last where a buffer is too short. A refused file writes nothing. */
+/* Reads a station file, of form 1 or 2, to the front of three lent buffers; a sheet of no entries is none. The sheet takes two bytes
+ * an entry, from form 1 too, where lowest and highest are the one level of the file. An input record is eleven bytes: five pins, five
+ * directions, release. rom_room is in words, the other rooms are in bytes. Refusals: 20 to 25, the last where a buffer is too short. A
+ * refused file writes nothing. */
 pollwezen_read_reply pollwezen_read(const uint8_t *file, size_t bytes, uint16_t *rom, size_t rom_room, uint8_t *sheet,
                                     size_t sheet_room, uint8_t *inputs, size_t inputs_room);
 
-/* Writes a station's file to the front of the lent buffer. Refusals: 22, 23 and 25. A refused station writes nothing. */
-pollwezen_output_reply pollwezen_write(const uint16_t *rom, size_t words, const uint8_t *sheet, size_t entries,
+/* Writes a station's file to the front of the lent buffer: form 1 where every entry is one level, or there is no sheet, else form 2. So
+ * a file of form 2 that form 1 could hold is not written back as it was. Refusals: 22 (a sheet of other than 0 or twice `words` bytes
+ * among them), 23 and 25. A refused station writes nothing. */
+pollwezen_output_reply pollwezen_write(const uint16_t *rom, size_t words, const uint8_t *sheet, size_t sheet_bytes,
                                        const uint8_t *inputs, size_t input_bytes, uint8_t *out, size_t room);
+
+/* Makes a sheet of single levels, one byte a word, into one of ranges at the front of the lent buffer, each byte twice, whatever it
+ * is. Refusal: 25, where the room is less than two bytes an entry; then nothing is written. */
+pollwezen_output_reply pollwezen_widen(const uint8_t *levels, size_t entries, uint8_t *out, size_t room);
 
 /* Puts what the program `station` prints for a file to the front of the lent buffer, with no closing 0. A bad file has a text
  * too, so the one refusal is 25, and then nothing is written. A buffer of POLLWEZEN_TEXT_BYTES, 100,000, is enough for every

@@ -163,16 +163,24 @@ static void ports(void) {
 
 static void verdicts(void) {
     static const uint16_t rom[] = {0xE003, 0x6000, 0x38F0, 0x38E0}, skipping[] = {0xE003, 0x6000, 0x38F0, 0x39E0};
-    static const uint8_t sheet[] = {0, 0, 15, 1};
-    pollwezen_verdict_reply c = pollwezen_verify(POLLWEZEN_17132, rom, 4, sheet, 4);
+    static const uint8_t sheet[] = {0, 0, 0, 0, 15, 15, 1, 1};
+    pollwezen_verdict_reply c = pollwezen_verify(POLLWEZEN_17132, rom, 4, sheet, 8);
     expect(c.number == POLLWEZEN_DONE && c.word == 0 && c.rule == 0, "a sheet that passes");
-    c = pollwezen_verify(POLLWEZEN_17132, skipping, 4, sheet, 4);
+    c = pollwezen_verify(POLLWEZEN_17132, skipping, 4, sheet, 8);
     expect(c.number == POLLWEZEN_FAIL && c.word == 0 && c.rule == 5, "a sheet that fails");
-    static const uint8_t level[] = {0, 0, 15, 0};
-    c = pollwezen_verify(POLLWEZEN_17132, rom + 1, 3, level + 1, 3);
+    static const uint8_t level[] = {0, 0, 15, 15, 0, 0};
+    c = pollwezen_verify(POLLWEZEN_17132, rom + 1, 3, level, 6);
     expect(c.number == POLLWEZEN_FAIL && c.word == 2 && c.rule == 6, "a RET at level 0");
-    c = pollwezen_verify(POLLWEZEN_17132, rom, 4, sheet, 3);
-    expect(c.number == 9 && c.word == 0 && c.rule == 0, "a sheet of another length");
+    for (size_t bytes = 0; bytes < 8; bytes++) {
+        c = pollwezen_verify(POLLWEZEN_17132, rom, 4, sheet, bytes);
+        expect(c.number == 9 && c.word == 0 && c.rule == 0, "a sheet of another length");
+    }
+    static const uint8_t wide[] = {0, 0, 0, 0, 15, 15, 1, 5}, half[] = {0, 0, 0, 0, 15, 0, 1, 1}, first[] = {0, 15, 0, 0, 15, 15, 1, 1};
+    expect(pollwezen_verify(POLLWEZEN_17132, rom, 4, wide, 8).number == POLLWEZEN_DONE, "a range that passes");
+    c = pollwezen_verify(POLLWEZEN_17132, rom, 4, half, 8);
+    expect(c.number == POLLWEZEN_FAIL && c.word == 2 && c.rule == 2, "15 for one half breaks rule 2");
+    c = pollwezen_verify(POLLWEZEN_17132, rom, 4, first, 8);
+    expect(c.number == POLLWEZEN_FAIL && c.word == 0 && c.rule == 1, "and at word 0 rule 1");
     expect(pollwezen_verify(POLLWEZEN_17132, rom, 0, sheet, 0).number == 1, "a ROM of no words");
 }
 

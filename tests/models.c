@@ -28,15 +28,15 @@ static void missing(void) {
 /* 768 words at most; a PC from 768 on is in range, and past the ROM. */
 static void words(void) {
     static uint16_t rom[769];
-    static uint8_t sheet[769];
+    static uint8_t sheet[2 * 769];
     for (unsigned i = 0; i < 769; i++) {
         rom[i] = 0x6000;
     }
     pollwezen_machine r = fresh(), before = r;
     expect(pollwezen_step(POLLWEZEN_17120, rom, 769, &r, none, 0) == 1 && same(&r, &before), "769 words");
-    expect(pollwezen_verify(POLLWEZEN_17120, rom, 769, sheet, 769).number == 1, "the check of 769 words");
-    expect(pollwezen_verify(POLLWEZEN_17120, rom, 768, sheet, 768).number == POLLWEZEN_DONE, "the check of 768 words");
-    expect(pollwezen_verify(POLLWEZEN_17132, rom, 769, sheet, 769).number == POLLWEZEN_DONE, "769 words on the 17132");
+    expect(pollwezen_verify(POLLWEZEN_17120, rom, 769, sheet, 2 * 769).number == 1, "the check of 769 words");
+    expect(pollwezen_verify(POLLWEZEN_17120, rom, 768, sheet, 2 * 768).number == POLLWEZEN_DONE, "the check of 768 words");
+    expect(pollwezen_verify(POLLWEZEN_17132, rom, 769, sheet, 2 * 769).number == POLLWEZEN_DONE, "769 words on the 17132");
     r.pc = 768;
     expect(pollwezen_step(POLLWEZEN_17120, rom, 768, &r, none, 0) == 2, "PC 768");
     r.pc = 1024;
@@ -45,7 +45,7 @@ static void words(void) {
 
 /* A number that is no model's. */
 static void no_model(void) {
-    static const uint8_t sheet[] = {0, 0, 0};
+    static const uint8_t sheet[6] = {0};
     for (unsigned number = 2; number < 256; number++) {
         pollwezen_machine r = fresh(), before;
         r.cells[0] = 200; /* out of range: nothing looks at it */
@@ -54,7 +54,7 @@ static void no_model(void) {
         expect(pollwezen_step((uint8_t)number, reaching, 3, &r, none, 0) == 1 && same(&r, &before), "a step of no model");
         pollwezen_run_reply ran = pollwezen_run((uint8_t)number, reaching, 3, &r, none, 0, 3);
         expect(ran.number == 1 && ran.steps == 0 && ran.cycles == 0 && same(&r, &before), "a run of no model");
-        pollwezen_verdict_reply c = pollwezen_verify((uint8_t)number, reaching, 3, sheet, 3);
+        pollwezen_verdict_reply c = pollwezen_verify((uint8_t)number, reaching, 3, sheet, 6);
         expect(c.number == 1 && c.word == 0 && c.rule == 0, "the check of no model");
     }
     pollwezen_machine r = fresh(), other;

@@ -9,7 +9,7 @@
 #include <ucontext.h>
 
 /* As the header says. */
-enum { MOST = 1200, MOST_OF_TRANSCRIPT = 50000 };
+enum { MOST = 1200, MOST_OF_TRANSCRIPT = 51000 };
 
 enum { ROOM = 1 << 18, PAINT = 0xA5 };
 static _Alignas(16) unsigned char painted[ROOM];
@@ -37,9 +37,9 @@ static void need(const char *name, void (*call)(void), size_t most) {
     expect(bytes <= most, name);
 }
 
-/* The largest station: BR 000 everywhere. */
+/* The largest station: BR 000 everywhere, at level 0 or 1, so that its file has form 2. */
 static uint16_t rom[POLLWEZEN_WORDS];
-static uint8_t sheet[POLLWEZEN_WORDS], inputs[POLLWEZEN_INPUT_BYTES], file[POLLWEZEN_FILE_BYTES], text[POLLWEZEN_TEXT_BYTES];
+static uint8_t sheet[POLLWEZEN_SHEET_BYTES], inputs[POLLWEZEN_INPUT_BYTES], file[POLLWEZEN_FILE_BYTES], text[POLLWEZEN_TEXT_BYTES];
 
 /* Two open levels; then also CY, Z, IXE, MPE and BCD set. */
 static pollwezen_machine states[2], machine;
@@ -51,6 +51,7 @@ static uint8_t refused;
 static void prepare(void) {
     for (unsigned i = 0; i < POLLWEZEN_WORDS; i++) {
         rom[i] = 0x6000;
+        sheet[2 * i + 1] = 1;
     }
     states[0] = fresh();
     states[0].levels = 2;
@@ -88,10 +89,10 @@ static void of_run(void) {
 }
 
 static void of_verify(void) {
-    refused |= pollwezen_verify(POLLWEZEN_17132, rom, POLLWEZEN_WORDS, sheet, POLLWEZEN_WORDS).number;
+    refused |= pollwezen_verify(POLLWEZEN_17132, rom, POLLWEZEN_WORDS, sheet, sizeof sheet).number;
     for (unsigned i = 0; i < 65536; i++) {
         uint16_t word = (uint16_t)i;
-        pollwezen_verify(POLLWEZEN_17132, &word, 1, sheet, 1);
+        pollwezen_verify(POLLWEZEN_17132, &word, 1, sheet, 2);
     }
 }
 
@@ -108,12 +109,17 @@ static void of_encode(void) {
     }
 }
 
+static void of_widen(void) {
+    static uint8_t wide[POLLWEZEN_SHEET_BYTES];
+    refused |= pollwezen_widen(sheet, POLLWEZEN_WORDS, wide, sizeof wide).number;
+}
+
 static void of_write(void) {
-    refused |= pollwezen_write(rom, POLLWEZEN_WORDS, sheet, POLLWEZEN_WORDS, inputs, sizeof inputs, file, sizeof file).number;
+    refused |= pollwezen_write(rom, POLLWEZEN_WORDS, sheet, sizeof sheet, inputs, sizeof inputs, file, sizeof file).number;
 }
 
 static void of_read(void) {
-    refused |= pollwezen_read(file, sizeof file, rom, POLLWEZEN_WORDS, sheet, POLLWEZEN_WORDS, inputs, sizeof inputs).number;
+    refused |= pollwezen_read(file, sizeof file, rom, POLLWEZEN_WORDS, sheet, sizeof sheet, inputs, sizeof inputs).number;
 }
 
 /* The largest file, and for each word a file that sets BCD, with MOV 7EH,#1, and then has that word. */
@@ -146,6 +152,7 @@ void stack_needs(void) {
     need("pollwezen_verify", of_verify, MOST);
     need("pollwezen_decode", of_decode, MOST);
     need("pollwezen_encode", of_encode, MOST);
+    need("pollwezen_widen", of_widen, MOST);
     need("pollwezen_write", of_write, MOST);
     need("pollwezen_read", of_read, MOST);
     need("pollwezen_transcript", of_transcript, MOST_OF_TRANSCRIPT);

@@ -15,8 +15,10 @@ static const uint16_t rom[] = {
     0x6004, /* 006  BR 004 */
     0x6002, /* 007  BR 002 */
 };
-static const uint8_t sheet[] = {0, 0, 0, 0, 0, 0, 0, 0};
 enum { WORDS = sizeof rom / sizeof rom[0], MODEL = POLLWEZEN_17132 };
+
+/* The board's sheet, an old one with one level a word: no call is open anywhere. */
+static const uint8_t levels[WORDS] = {0};
 
 static int stop(const char *what, unsigned number) {
     printf("lamps -----\n");
@@ -25,7 +27,12 @@ static int stop(const char *what, unsigned number) {
 }
 
 int main(void) {
-    pollwezen_verdict_reply verdict = pollwezen_verify(MODEL, rom, WORDS, sheet, WORDS);
+    uint8_t sheet[2 * WORDS];
+    pollwezen_output_reply made = pollwezen_widen(levels, WORDS, sheet, sizeof sheet);
+    if (made.number != POLLWEZEN_DONE) {
+        return stop("no room for the sheet", made.number);
+    }
+    pollwezen_verdict_reply verdict = pollwezen_verify(MODEL, rom, WORDS, sheet, made.length);
     if (verdict.number != POLLWEZEN_DONE) {
         return stop("the ROM does not pass with its sheet", verdict.number);
     }

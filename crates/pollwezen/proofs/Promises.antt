@@ -21,8 +21,7 @@ use Rattle.listing.specs.Rows.{decodedRowOf, encodedRowOf}
 use Rattle.listing.specs.Table.{fields}
 use Rattle.station_file.specs.Answers.{buffersOf, stationOf}
 use Rattle.station_file.specs.Read.{Read, readOf}
-use Rattle.station_file.specs.Station.{form1}
-use Rattle.station_file.specs.Write.{Write, writeOf}
+use Rattle.station_file.specs.Write.{Write, widenOf, writeOf}
 use Rattle.transcript.specs.Print.{Print, printOf}
 use Rattle.transcript.specs.Transcript.{transcriptOf}
 use Rattle.pollwezen.specs.Lent.{lentRun, lentRunOf, lentStep, lentStepOf}
@@ -36,6 +35,7 @@ use Rattle.pollwezen.proofs.pollwezen_decode as decode
 use Rattle.pollwezen.proofs.pollwezen_encode as encode
 use Rattle.pollwezen.proofs.pollwezen_read as read
 use Rattle.pollwezen.proofs.pollwezen_write as write
+use Rattle.pollwezen.proofs.pollwezen_widen as widen
 use Rattle.pollwezen.proofs.pollwezen_transcript as transcript
 
 module _ {M : Type 1} (𝓤 : URA M) (H : Heap 𝓤) (A : Atoms 𝓤) (mem : Memory → SProp 𝓤) (runs : Routine → Fun 𝓤) where
@@ -106,7 +106,7 @@ module _ {M : Type 1} (𝓤 : URA M) (H : Heap 𝓤) (A : Atoms 𝓤) (mem : Mem
 
   module _ (κs : Lfts 4) (a : Args read.signature κs) (r : Res read.signature κs) (e : AtExit read.ended κs) where
     abbrev reads : Read
-    reads = readOf form1 (now (a .0)) (buffersOf (now (a .1 .0)) (now (a .1 .1 .0)) (now (a .1 .1 .1 .0)))
+    reads = readOf (now (a .0)) (buffersOf (now (a .1 .0)) (now (a .1 .1 .0)) (now (a .1 .1 .1 .0)))
 
     abbrev Read-file : SProp 𝓤
     Read-file = read.clauses 𝓤 H A mem runs κs a .ensures tt r e
@@ -119,7 +119,7 @@ module _ {M : Type 1} (𝓤 : URA M) (H : Heap 𝓤) (A : Atoms 𝓤) (mem : Mem
 
   module _ (κs : Lfts 4) (a : Args write.signature κs) (r : Res write.signature κs) (e : AtExit write.ended κs) where
     abbrev writes : Write
-    writes = writeOf form1 (stationOf (now (a .0)) (now (a .1 .0)) (now (a .1 .1 .0))) (now (a .1 .1 .1 .0))
+    writes = writeOf (stationOf (now (a .0)) (now (a .1 .0)) (now (a .1 .1 .0))) (now (a .1 .1 .1 .0))
 
     abbrev Write-file : SProp 𝓤
     Write-file = write.clauses 𝓤 H A mem runs κs a .ensures tt r e
@@ -129,6 +129,19 @@ module _ {M : Type 1} (𝓤 : URA M) (H : Heap 𝓤) (A : Atoms 𝓤) (mem : Mem
 
     pub write-leaves : ent 𝓤 Write-file (fact 𝓤 (now (e .1 .1 .1 .0) ≡ writes .out))
     write-leaves = second
+
+  module _ (κs : Lfts 2) (a : Args widen.signature κs) (r : Res widen.signature κs) (e : AtExit widen.ended κs) where
+    abbrev widens : Write
+    widens = widenOf (now (a .0)) (now (a .1 .0))
+
+    abbrev Widen : SProp 𝓤
+    Widen = widen.clauses 𝓤 H A mem runs κs a .ensures tt r e
+
+    pub widen-answers : ent 𝓤 Widen (fact 𝓤 (r ≡ writeReplyOf (widens .reply)))
+    widen-answers = first
+
+    pub widen-leaves : ent 𝓤 Widen (fact 𝓤 (now (e .1 .0) ≡ widens .out))
+    widen-leaves = second
 
   module _ (κs : Lfts 2) (a : Args transcript.signature κs) (r : Res transcript.signature κs) (e : AtExit transcript.ended κs) where
     abbrev prints : Print

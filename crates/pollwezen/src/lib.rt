@@ -13,8 +13,7 @@ ghost use Rattle.listing.specs.Rows.{decodedRowOf, encodedRowOf};
 ghost use Rattle.listing.specs.Table.{fields};
 ghost use Rattle.station_file.specs.Answers.{buffersOf, stationOf};
 ghost use Rattle.station_file.specs.Read.{readOf};
-ghost use Rattle.station_file.specs.Station.{form1};
-ghost use Rattle.station_file.specs.Write.{writeOf};
+ghost use Rattle.station_file.specs.Write.{widenOf, writeOf};
 ghost use Rattle.transcript.specs.Print.{printOf};
 ghost use Rattle.transcript.specs.Transcript.{transcriptOf};
 ghost use Rattle.pollwezen.specs.Lent.{lentRun, lentRunOf, lentStep, lentStepOf};
@@ -58,7 +57,7 @@ pub struct ReadReply {
     pub records: usize,
 }
 
-// What the writer and the transcript answer: 0 and how many bytes they wrote, or the refusal.
+// What the writer, the widening and the transcript answer: 0 and how many bytes they wrote, or the refusal.
 #[repr(C)]
 pub struct OutputReply {
     pub number: u8,
@@ -161,7 +160,7 @@ pub extern "C" fn pollwezen_run(
     r.reply
 }
 
-// The check of a ROM and its sheet, one level a word, for a model. The last promise is demand 3 on that model, of these entries too.
+// The check of a ROM and its sheet, two bytes a word, for a model. The last promise is demand 3 on that model, of these entries too.
 #[no_mangle]
 pub extern "C" fn pollwezen_verify(model: u8, rom: &[u16], sheet: &[u8]) -> VerdictReply
     ensures { λ r. ⌜ r ≡ verdictReplyOf (verifyOn (modelOf model) (now (rom .entry)) (now (sheet .entry))) ⌝ }
@@ -198,9 +197,9 @@ pub extern "C" fn pollwezen_read(
     sheet: &mut [u8],
     inputs: &mut [u8],
 ) -> ReadReply
-    ensures { λ r. ⌜ r ≡ readReplyOf ((readOf form1 (now (file .entry)) (buffersOf (now (rom .entry)) (now (sheet .entry)) (now (inputs .entry)))) .reply) ⌝ }
+    ensures { λ r. ⌜ r ≡ readReplyOf ((readOf (now (file .entry)) (buffersOf (now (rom .entry)) (now (sheet .entry)) (now (inputs .entry)))) .reply) ⌝ }
     ensures { λ r. ⌜ buffersOf (now (rom .exit)) (now (sheet .exit)) (now (inputs .exit))
-        ≡ (readOf form1 (now (file .entry)) (buffersOf (now (rom .entry)) (now (sheet .entry)) (now (inputs .entry)))) .buffers ⌝ }
+        ≡ (readOf (now (file .entry)) (buffersOf (now (rom .entry)) (now (sheet .entry)) (now (inputs .entry)))) .buffers ⌝ }
 {
     replies::of_loaded(station_file::read(file, rom, sheet, inputs))
 }
@@ -213,10 +212,19 @@ pub extern "C" fn pollwezen_write(
     inputs: &[u8],
     out: &mut [u8],
 ) -> OutputReply
-    ensures { λ r. ⌜ r ≡ writeReplyOf ((writeOf form1 (stationOf (now (rom .entry)) (now (sheet .entry)) (now (inputs .entry))) (now (out .entry))) .reply) ⌝ }
-    ensures { λ r. ⌜ now (out .exit) ≡ (writeOf form1 (stationOf (now (rom .entry)) (now (sheet .entry)) (now (inputs .entry))) (now (out .entry))) .out ⌝ }
+    ensures { λ r. ⌜ r ≡ writeReplyOf ((writeOf (stationOf (now (rom .entry)) (now (sheet .entry)) (now (inputs .entry))) (now (out .entry))) .reply) ⌝ }
+    ensures { λ r. ⌜ now (out .exit) ≡ (writeOf (stationOf (now (rom .entry)) (now (sheet .entry)) (now (inputs .entry))) (now (out .entry))) .out ⌝ }
 {
     replies::of_written(station_file::write(rom, sheet, inputs, out))
+}
+
+// Makes a sheet of single levels into one of ranges, at the front of the lent buffer. One that is too short stays as it is.
+#[no_mangle]
+pub extern "C" fn pollwezen_widen(levels: &[u8], out: &mut [u8]) -> OutputReply
+    ensures { λ r. ⌜ r ≡ writeReplyOf ((widenOf (now (levels .entry)) (now (out .entry))) .reply) ⌝ }
+    ensures { λ r. ⌜ now (out .exit) ≡ (widenOf (now (levels .entry)) (now (out .entry))) .out ⌝ }
+{
+    replies::of_written(station_file::widen(levels, out))
 }
 
 // Puts what `station` prints for a file to the front of the lent buffer. One that is too short stays as it is; one of

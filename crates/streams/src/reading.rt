@@ -8,7 +8,7 @@ use crate::Meaning;
 use crate::Received;
 use crate::answer::interpret;
 
-const FILE_ROOM: usize = 48126;
+const FILE_ROOM: usize = 49150;
 
 // Room for one byte more than the longest station file: so one that is too long is seen.
 pub fn file_buffer() -> [u8; FILE_ROOM]

@@ -18,7 +18,8 @@ use Rattle.machine.specs.declared.Input.{Input}
 use Rattle.machine.specs.declared.Machine.{Machine}
 use Rattle.verifier.specs.Verdict as verdict
 use Rattle.station_file.specs.Reading as reading
-use Rattle.station_file.specs.Station.{Station, form1, recordBytes, parseOf}
+use Rattle.station_file.specs.Forms.{loadOf}
+use Rattle.station_file.specs.Station.{Station, recordBytes}
 use Rattle.transcript.specs.Text.{space, newline, fileText, sheetText, noneText, passText, failText, endText, dashes, hex1, hex3, decimal}
 
 -- the input records of so many times eleven bytes: five pins, five directions, release
@@ -28,8 +29,8 @@ inputsOf (suc n) xs =
     record { pins = take 5 xs; directions = take 5 (drop 5 xs); release = getD xs 10 0 }
     ∷ inputsOf n (drop recordBytes xs)
 
--- "first SHEET NONE, SHEET PASS, or SHEET FAIL with word (three hex digits) and rule"; a sheet that was read has the ROM's
--- length, so the check has no refusal for it
+-- "first SHEET NONE, SHEET PASS, or SHEET FAIL with word (three hex digits) and rule"; a sheet that was read has two
+-- bytes for each word of the ROM, so the check has no refusal for it
 abbrev pub verdictText : verdict.CheckAnswer → List ℕ
 verdictText verdict.pass = passText
 verdictText (verdict.fail word rule) = failText ++ hex3 word ++ (space ∷ []) ++ decimal rule
@@ -107,4 +108,4 @@ readText (reading.got s rest) = stationText s
 readText (reading.refused n) = fileText ++ decimal n ++ newline
 
 unfoldable pub transcriptOf : List ℕ → List ℕ
-transcriptOf file = readText (parseOf form1 file)
+transcriptOf file = readText (loadOf file)

@@ -24,15 +24,15 @@ fn put_front(
     rom: &[u16],
     words: usize,
     sheet: &[u8],
-    entries: usize,
+    halves: usize,
     inputs: &[u8],
     bytes: usize,
     out: &mut [u8],
 ) -> usize
-    requires { ⌜ (words ≤ length (now rom)) × (entries ≤ length (now sheet)) × (bytes ≤ length (now inputs)) × (bytes ≤ 45045) ⌝ }
-    ensures { λ r. ⌜ Wrote 100000 0 (stationText (record { rom = take words (now (rom .entry)); sheet = take entries (now (sheet .entry)); inputs = take bytes (now (inputs .entry)) })) (now (out .entry)) (now (out .exit)) r ⌝ }
+    requires { ⌜ (words ≤ length (now rom)) × (halves ≤ length (now sheet)) × (bytes ≤ length (now inputs)) × (bytes ≤ 45045) ⌝ }
+    ensures { λ r. ⌜ Wrote 100000 0 (stationText (record { rom = take words (now (rom .entry)); sheet = take halves (now (sheet .entry)); inputs = take bytes (now (inputs .entry)) })) (now (out .entry)) (now (out .exit)) r ⌝ }
 {
-    put_station(&rom[..words], &sheet[..entries], &inputs[..bytes], out)
+    put_station(&rom[..words], &sheet[..halves], &inputs[..bytes], out)
 }
 
 // The whole text of a file, as far as it fits, and its length.
@@ -40,14 +40,14 @@ fn put_file(file: &[u8], out: &mut [u8]) -> usize
     ensures { λ r. ⌜ Wrote 100000 0 (transcriptOf (now (file .entry))) (now (out .entry)) (now (out .exit)) r ⌝ }
 {
     let mut rom = [0u16; 1024];
-    let mut sheet = [0u8; 1024];
+    let mut sheet = [0u8; 2048];
     let mut inputs = [0u8; 45045];
     match station_file::read(file, &mut rom, &mut sheet, &mut inputs) {
         Loaded::Station {
             words,
             entries,
             records,
-        } => put_front(&rom, words, &sheet, entries, &inputs, 11 * records, out),
+        } => put_front(&rom, words, &sheet, 2 * entries, &inputs, 11 * records, out),
         Loaded::Refused(refusal) => put_bad_file(out, refusal_number(refusal)),
     }
 }
