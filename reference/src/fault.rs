@@ -82,7 +82,7 @@ pub const TEST_KEEPS_CMP: u32 = 21;
 pub const RELEASE_LOST: u32 = 22;
 /// PC goes on at 0 after the ROM's last word.
 pub const WRAP_AT_ROM_END: u32 = 23;
-/// Sheet entries 6 to 14 count as never reached.
+/// A sheet entry that breaks rule 2 counts as never reached.
 pub const CHECK_ODD_ENTRY: u32 = 24;
 /// A section that is cut off is 21 even if it has an entry out of range.
 pub const SHORT_BEFORE_RANGE: u32 = 25;
@@ -268,6 +268,64 @@ pub const CHECK_MOVT_OF_ROM: u32 = 113;
 pub const CHECK_BANS_MISSING: u32 = 114;
 /// A model's number is taken by its lowest bit.
 pub const MODEL_BY_LOW_BIT: u32 = 115;
+/// 9 compares the sheet's bytes with the ROM's words, and not with twice as many.
+pub const CHECK_BYTE_A_WORD: u32 = 116;
+/// An odd byte after the sheet's entries is no refusal 9.
+pub const CHECK_ODD_LENGTH: u32 = 117;
+/// A named word's range must lie in the word's own, and not hold it.
+pub const CHECK_HOLDS_INVERTED: u32 = 118;
+/// A named word must have the range itself; one that holds more breaks the rule.
+pub const CHECK_SAME_RANGE: u32 = 119;
+/// Word 0 must have level 0 and no other.
+pub const CHECK_START_OF_0_ALONE: u32 = 120;
+/// At word 0 an entry that breaks rule 2 breaks no rule 1.
+pub const CHECK_ODD_START: u32 = 121;
+/// In rule 2 an entry with 15 for one half only counts as never reached.
+pub const CHECK_HALF_NEVER: u32 = 122;
+/// In rule 2 an entry with its lowest above its highest counts as never reached.
+pub const CHECK_TURNED_RANGE: u32 = 123;
+/// An entry that breaks rule 2 by its highest holds the levels up to 5.
+pub const CHECK_ODD_HOLDS: u32 = 124;
+/// A RETSK whose entry breaks rule 2 by its highest is reached up to level 5.
+pub const CHECK_ODD_RETSK: u32 = 125;
+/// For CALL's target the lowest is raised, the highest only where they are equal.
+pub const CHECK_LOWEST_RAISED: u32 = 126;
+/// For CALL's target the highest is raised, the lowest only where they are equal.
+pub const CHECK_HIGHEST_RAISED: u32 = 127;
+/// Of a RETSK's range only the lowest level is compared with the raised range.
+pub const CHECK_RETSK_AT_LOWEST: u32 = 128;
+/// Of the raised range only the lowest level is compared with the RETSKs' ranges.
+pub const CHECK_CALLED_AT_LOWEST: u32 = 129;
+/// The word after next must hold only the levels that a RETSK returns to.
+pub const CHECK_SHARED_ALONE: u32 = 130;
+/// CALL needs a lowest of at most 4, and the raised range ends at 5.
+pub const CHECK_CALL_AT_LOWEST: u32 = 131;
+/// MOVT needs a lowest of at most 4.
+pub const CHECK_MOVT_AT_LOWEST: u32 = 132;
+/// RET and RETSK need a highest of at least 1.
+pub const CHECK_RETURN_AT_HIGHEST: u32 = 133;
+/// Form 3 is read as form 2.
+pub const FORM_OF_THREE: u32 = 134;
+/// The reader takes an entry with 15 for one half only.
+pub const READ_HALF_NEVER: u32 = 135;
+/// The reader takes an entry with its lowest above its highest.
+pub const READ_TURNED_RANGE: u32 = 136;
+/// A file that ends within an entry of the sheet is refused with 23.
+pub const CUT_ENTRY_MEETS_23: u32 = 137;
+/// A file that ends within an entry of the sheet is 21 whatever its first half is.
+pub const CUT_NOT_TESTED: u32 = 138;
+/// The count of a form 2 sheet is that of its bytes.
+pub const COUNT_OF_BYTES: u32 = 139;
+/// 25 asks for the sheet's bytes in the file, one an entry from form 1.
+pub const ROOM_OF_FILE: u32 = 140;
+/// The writer leaves out an odd byte after the sheet's entries.
+pub const WRITE_ODD_LENGTH: u32 = 141;
+/// Every station is written in form 2.
+pub const FORM_2_ALWAYS: u32 = 142;
+/// A station without a sheet is written in form 2.
+pub const NONE_IN_FORM_2: u32 = 143;
+/// Form 1 is written wherever the first entry has equal halves.
+pub const FORM_BY_FIRST: u32 = 144;
 
 /// The number of the last fault.
-pub const LAST: u32 = MODEL_BY_LOW_BIT;
+pub const LAST: u32 = FORM_BY_FIRST;

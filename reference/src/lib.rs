@@ -18,6 +18,7 @@ pub mod model;
 mod pace;
 pub mod peripherals;
 mod register_file;
+pub mod sheet;
 pub mod station;
 pub mod step;
 mod timer;

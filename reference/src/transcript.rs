@@ -34,10 +34,10 @@ struct Text(String);
 impl Text {
     /// The sheet's line. A sheet that fails does not stop the program.
     fn sheet(&mut self, station: &Station) {
-        if station.depths.is_empty() {
+        if station.sheet.is_empty() {
             return self.0.push_str("SHEET NONE\n");
         }
-        match verify(MODEL, &station.rom, &station.depths) {
+        match verify(MODEL, &station.rom, &station.sheet) {
             Verdict::Pass => self.0.push_str("SHEET PASS\n"),
             Verdict::Fail { word, rule } => {
                 self.0.push_str("SHEET FAIL ");
@@ -46,7 +46,8 @@ impl Text {
                 self.decimal(rule.into());
                 self.0.push('\n');
             }
-            Verdict::Refused(_) => unreachable!("a station that was read has lengths that fit"),
+            // Only a deliberate fault refuses the lengths of a station that was read.
+            Verdict::Refused(_) => assert!(fault::any()),
         }
     }
 

@@ -4,6 +4,7 @@
 #![cfg(feature = "faults")]
 
 use reference::fault::*;
+use reference::sheet::of_levels;
 use reference::Instruction::{self, *};
 use reference::{decode, encode, station, transcript};
 use reference::{Answer, Input, Machine, Model, Peripherals, Report, Station, Verdict};
@@ -21,8 +22,9 @@ fn run(rom: &[u16], machine: &mut Machine, input: &Input, pulse: u8, budget: u32
     reference::run(MODEL, rom, machine, input, pulse, budget)
 }
 
-fn verify(rom: &[u16], depths: &[u8]) -> Verdict {
-    reference::verify(MODEL, rom, depths)
+/// The check with a sheet of single levels.
+fn verify(rom: &[u16], levels: &[u8]) -> Verdict {
+    reference::verify(MODEL, rom, &of_levels(levels))
 }
 
 fn word(i: Instruction) -> u16 {
@@ -111,7 +113,7 @@ fn tiny(cells: &[(u8, u8)], i: Instruction) -> String {
 fn judged(words: usize, last: Instruction) -> String {
     let mut rom = vec![word(Nop); words];
     rom[words - 1] = word(last);
-    format!("{:?}", reference::verify(Model::Upd17120, &rom, &vec![0; words]))
+    format!("{:?}", reference::verify(Model::Upd17120, &rom, &vec![0; 2 * words]))
 }
 
 /// What a run from reset reports.
@@ -170,7 +172,7 @@ fn witness(fault: u32) -> String {
         CLOSED_NOT_TESTED => changed(|m| m.stack[4] = 9, 0, &[word(Nop)]),
         COUNTS_BEFORE_ENTRIES => {
             let inputs = vec![Input::default(); 4096];
-            format!("{:?}", station::write(&Station { rom: vec![0], depths: vec![9], inputs }))
+            format!("{:?}", station::write(&Station { rom: vec![0], sheet: vec![9; 2], inputs }))
         }
         EXCESS_BEFORE_RANGE => {
             let mut file = vec![0, 1, 0, 1, 0, 0, 0, 0, 0, 1, 16];
@@ -195,7 +197,7 @@ fn witness(fault: u32) -> String {
         CYCLES_OF_16_BITS => ran(&[Movt, Br { addr: 0 }], 65_535),
         END_EXCHANGED => {
             let station =
-                Station { rom: rom(&[Movt]), depths: vec![], inputs: vec![Input::default()] };
+                Station { rom: rom(&[Movt]), sheet: vec![], inputs: vec![Input::default()] };
             transcript(&station::write(&station).expect("a good station"))
         }
         _ => peripheral_witness(fault),
@@ -283,6 +285,92 @@ fn model_witness(fault: u32) -> String {
         CHECK_MOVT_OF_ROM => judged(768, Movt),
         CHECK_BANS_MISSING => judged(2, Peek { rf: 0x40 }),
         MODEL_BY_LOW_BIT => format!("{:?}", Model::of_number(2)),
+        _ => range_witness(fault),
+    }
+}
+
+/// The check of a program with its sheet.
+fn ranged(program: &[Instruction], sheet: &[[u8; 2]]) -> String {
+    format!("{:?}", reference::verify(MODEL, &rom(program), sheet.as_flattened()))
+}
+
+/// The check of 1,024 words, the second of them this one and the third to stay
+/// there, both with this entry; the others stay at word 0.
+fn table(second: Instruction, entry: [u8; 2]) -> String {
+    let mut program = vec![Br { addr: 0 }; 1024];
+    (program[1], program[2]) = (second, Br { addr: 2 });
+    let mut sheet = vec![[0, 0]; 1024];
+    sheet[1..3].fill(entry);
+    ranged(&program, &sheet)
+}
+
+/// What the reader makes of a file of one word with these last bytes.
+fn file(form: u8, sheet: &[u8]) -> String {
+    format!("{:?}", station::read(&[&[0, form, 0, 1, 0, 0], sheet].concat()))
+}
+
+/// What the writer makes of two words with this sheet.
+fn written(sheet: &[u8]) -> String {
+    let station = Station { rom: vec![0; 2], sheet: sheet.to_vec(), inputs: vec![] };
+    format!("{:?}", station::write(&station))
+}
+
+/// A case for each fault in the check of ranges.
+fn range_witness(fault: u32) -> String {
+    const NEVER: [u8; 2] = [15; 2];
+    let here = Br { addr: 0 };
+    // Words 0 and 1 at level 0 go on at 2; a CALL of the last word stands there.
+    let called = |last| [here, here, Call { addr: 5 }, Br { addr: 3 }, Br { addr: 4 }, last];
+    let ranges = |call, after, last| [[0, 0], [0, 0], call, call, after, last];
+    match fault {
+        CHECK_BYTE_A_WORD => ranged(&[here], &[[0, 0]]),
+        CHECK_ODD_LENGTH => format!("{:?}", reference::verify(MODEL, &rom(&[here]), &[0; 3])),
+        CHECK_HOLDS_INVERTED => ranged(&[Br { addr: 1 }, Br { addr: 1 }], &[[0, 0], [0, 1]]),
+        CHECK_SAME_RANGE => ranged(&[Br { addr: 1 }, Br { addr: 1 }], &[[0, 0], [0, 1]]),
+        CHECK_START_OF_0_ALONE => ranged(&[here], &[[0, 1]]),
+        CHECK_ODD_START => ranged(&[here], &[[0, 9]]),
+        CHECK_HALF_NEVER => ranged(&[here, here], &[[0, 0], [0, 15]]),
+        CHECK_TURNED_RANGE => ranged(&[here, here], &[[0, 0], [1, 0]]),
+        CHECK_ODD_HOLDS => ranged(&[Br { addr: 1 }, here], &[[0, 0], [0, 9]]),
+        CHECK_ODD_RETSK => ranged(
+            &[here, here, Call { addr: 5 }, Br { addr: 3 }, Retsk, Ret],
+            &ranges([0, 0], [1, 9], [1, 1]),
+        ),
+        CHECK_LOWEST_RAISED => ranged(&called(Ret), &ranges([0, 1], NEVER, [1, 1])),
+        CHECK_HIGHEST_RAISED => ranged(&called(Ret), &ranges([0, 1], NEVER, [1, 2])),
+        CHECK_RETSK_AT_LOWEST => ranged(&called(Retsk), &ranges([1, 1], NEVER, [1, 2])),
+        CHECK_CALLED_AT_LOWEST => ranged(
+            &[here, here, Call { addr: 5 }, Br { addr: 3 }, Retsk, Ret],
+            &ranges([0, 1], [2, 2], [1, 2]),
+        ),
+        CHECK_SHARED_ALONE => ranged(
+            &[here, here, Call { addr: 6 }, Br { addr: 3 }, Br { addr: 4 }, Retsk, Ret],
+            &[[0, 0], [0, 0], [0, 1], [0, 1], [1, 1], [2, 2], [1, 2]],
+        ),
+        CHECK_CALL_AT_LOWEST => ranged(&called(Ret), &ranges([4, 5], NEVER, [5, 5])),
+        CHECK_MOVT_AT_LOWEST => table(Movt, [4, 5]),
+        CHECK_RETURN_AT_HIGHEST => ranged(&[here, Ret], &[[0, 0], [0, 1]]),
+        _ => form_witness(fault),
+    }
+}
+
+/// A case for each fault in the forms of a file.
+fn form_witness(fault: u32) -> String {
+    match fault {
+        FORM_OF_THREE => file(3, &[0, 0, 0, 0]),
+        READ_HALF_NEVER => file(2, &[0, 1, 0, 15, 0, 0]),
+        READ_TURNED_RANGE => file(2, &[0, 1, 1, 0, 0, 0]),
+        CUT_ENTRY_MEETS_23 => file(2, &[0, 1, 0]),
+        CUT_NOT_TESTED => file(2, &[0, 1, 6]),
+        COUNT_OF_BYTES => file(2, &[0, 1, 0, 1, 0, 0]),
+        ROOM_OF_FILE => {
+            let (bytes, mut rom, mut sheet) = ([0, 1, 0, 1, 0, 0, 0, 1, 5, 0, 0], [7], [7]);
+            format!("{:?}", station::read_into(&bytes, &mut rom, &mut sheet, &mut []))
+        }
+        WRITE_ODD_LENGTH => written(&[0; 5]),
+        FORM_2_ALWAYS => written(&[0; 4]),
+        NONE_IN_FORM_2 => written(&[]),
+        FORM_BY_FIRST => written(&[0, 0, 0, 1]),
         _ => unreachable!("fault {fault}"),
     }
 }

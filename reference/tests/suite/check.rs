@@ -1,4 +1,5 @@
-//! The check: document 01, "Clearance rules".
+//! The check: document 01, "Clearance rules", with one level at each word. Ranges
+//! of levels are in `ranges`.
 
 use crate::kit::*;
 use reference::Instruction::{self, *};

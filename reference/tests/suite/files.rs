@@ -1,6 +1,8 @@
-//! The station file: document 01, "Station file" and the file refusals.
+//! The station file: document 01, "Station file" and the file refusals. Here it
+//! is of form 1; form 2 is in `forms`.
 
 use crate::kit::*;
+use reference::sheet::of_levels;
 use reference::station::{read, read_into, write, write_into, Counts};
 use reference::{Input, Station};
 
@@ -8,7 +10,7 @@ use reference::{Input, Station};
 fn sample() -> Station {
     Station {
         rom: vec![0xE805, 0x6001],
-        depths: vec![0, 15],
+        sheet: vec![0, 0, 15, 15],
         inputs: vec![
             Input { pins: [1, 2, 3, 4, 5], directions: [6, 7, 8, 9, 10], release: 1 },
             quiet(),
@@ -34,17 +36,17 @@ fn changed(at: usize, byte: u8) -> Vec<u8> {
 fn reading_and_writing() {
     assert_eq!(read(&bytes()), Ok(sample()));
     assert_eq!(write(&sample()), Ok(bytes()));
-    let least = Station { rom: vec![0xFFFF], depths: vec![], inputs: vec![] };
+    let least = Station { rom: vec![0xFFFF], sheet: vec![], inputs: vec![] };
     assert_eq!(write(&least), Ok(vec![0, 1, 0, 1, 0xFF, 0xFF, 0, 0, 0, 0]));
     assert_eq!(read(&write(&least).unwrap()), Ok(least));
 }
 
 #[test]
 fn twenty_for_the_form() {
-    for file in [changed(0, 1), changed(1, 0), changed(1, 2)] {
+    for file in [changed(0, 1), changed(1, 0), changed(1, 3)] {
         assert_eq!(read(&file), Err(20));
     }
-    assert_eq!(read(&[0, 2]), Err(20));
+    assert_eq!(read(&[0, 3]), Err(20));
 }
 
 /// Every cut of a good file; an unfinished count or word is 21 as well.
@@ -98,7 +100,7 @@ fn the_first_fault_is_given() {
         file[front.0] = front.1;
         file
     };
-    assert_eq!(read(&two((1, 2), (3, 0))), Err(20), "form, then count of words");
+    assert_eq!(read(&two((1, 3), (3, 0))), Err(20), "form, then count of words");
     assert_eq!(read(&two((2, 9), (10, 6))), Err(22), "count of words, then entry");
     assert_eq!(read(&two((9, 1), (10, 6))), Err(22), "count of entries, then entry");
     assert_eq!(read(&two((10, 6), (12, 0x10))), Err(23), "entry, then count of inputs");
@@ -125,24 +127,24 @@ fn twenty_four_for_more_bytes() {
 
 #[test]
 fn twenty_five_for_lent_buffers() {
-    let (rom0, depths0) = ([7_u16; 4], [7_u8; 4]);
+    let (rom0, sheet0) = ([7_u16; 4], [7_u8; 6]);
     let inputs0 = [Input { release: 9, ..quiet() }; 4];
-    for (words, depths, inputs) in [(1, 2, 2), (2, 1, 2), (2, 2, 1), (0, 0, 0)] {
-        let (mut rom, mut sheet, mut list) = (rom0, depths0, inputs0);
+    for (words, room, inputs) in [(1, 4, 2), (2, 3, 2), (2, 2, 2), (2, 4, 1), (0, 0, 0)] {
+        let (mut rom, mut sheet, mut list) = (rom0, sheet0, inputs0);
         let answer =
-            read_into(&bytes(), &mut rom[..words], &mut sheet[..depths], &mut list[..inputs]);
+            read_into(&bytes(), &mut rom[..words], &mut sheet[..room], &mut list[..inputs]);
         assert_eq!(answer, Err(25));
         // 25 comes last, and nothing is written.
         let bad = read_into(&changed(35, 2), &mut rom[..words], &mut sheet, &mut list);
         assert_eq!(bad, Err(23));
-        assert_eq!((rom, sheet, list), (rom0, depths0, inputs0));
+        assert_eq!((rom, sheet, list), (rom0, sheet0, inputs0));
     }
-    let (mut rom, mut sheet, mut list) = (rom0, depths0, inputs0);
+    let (mut rom, mut sheet, mut list) = (rom0, sheet0, inputs0);
     let answer = read_into(&bytes(), &mut rom, &mut sheet, &mut list);
-    assert_eq!(answer, Ok(Counts { words: 2, depths: 2, inputs: 2 }));
+    assert_eq!(answer, Ok(Counts { words: 2, entries: 2, inputs: 2 }));
     // Places past what is written stay.
     assert_eq!(rom, [0xE805, 0x6001, 7, 7]);
-    assert_eq!(sheet, [0, 15, 7, 7]);
+    assert_eq!(sheet, [0, 0, 15, 15, 7, 7]);
     assert_eq!(list[..2], sample().inputs);
     assert_eq!(list[2..], inputs0[2..]);
 }
@@ -168,13 +170,13 @@ fn writing_is_refused_in_file_order() {
     let cases: [(Station, u8); 9] = [
         (Station { rom: vec![], ..sample() }, 22),
         (Station { rom: vec![0; 1025], ..sample() }, 22),
-        (Station { depths: vec![0], ..sample() }, 22),
-        (Station { depths: vec![0; 3], ..sample() }, 22),
-        (Station { depths: vec![0, 6], ..sample() }, 23),
+        (Station { sheet: vec![0; 2], ..sample() }, 22),
+        (Station { sheet: vec![0; 6], ..sample() }, 22),
+        (Station { sheet: vec![0, 0, 6, 6], ..sample() }, 23),
         (Station { inputs: vec![quiet(); 4096], ..sample() }, 22),
         (Station { inputs: vec![bad_input], ..sample() }, 23),
         // A bad entry of the sheet stands before the count of inputs,
-        (Station { depths: vec![0, 6], inputs: vec![quiet(); 4096], ..sample() }, 23),
+        (Station { sheet: vec![0, 0, 6, 6], inputs: vec![quiet(); 4096], ..sample() }, 23),
         // and that count before the inputs' bytes.
         (Station { inputs: vec![bad_input; 4096], ..sample() }, 22),
     ];
@@ -198,7 +200,7 @@ fn writing_is_refused_in_file_order() {
 fn the_largest_station() {
     let station = Station {
         rom: vec![0xFFFF; 1024],
-        depths: vec![5; 1024],
+        sheet: vec![5; 2048],
         inputs: vec![Input { pins: [15; 5], directions: [15; 5], release: 1 }; 4095],
     };
     let file = write(&station).unwrap();
@@ -212,9 +214,11 @@ fn stations_go_round() {
     for _ in 0..200 {
         let words = 1 + random.below(40) as usize;
         let sheet = if random.below(2) == 0 { 0 } else { words };
+        let levels: Vec<u8> =
+            (0..sheet).map(|_| [0, 1, 2, 3, 4, 5, 15][random.below(7) as usize]).collect();
         let station = Station {
             rom: (0..words).map(|_| random.word()).collect(),
-            depths: (0..sheet).map(|_| [0, 1, 2, 3, 4, 5, 15][random.below(7) as usize]).collect(),
+            sheet: of_levels(&levels),
             inputs: (0..random.below(20)).map(|_| random.input()).collect(),
         };
         let file = write(&station).unwrap();
@@ -223,7 +227,7 @@ fn stations_go_round() {
     }
 }
 
-/// Whatever bytes come, a file that is read is written back the same.
+/// Whatever bytes come, a file of form 1 that is read is written back the same.
 #[test]
 fn mangled_files() {
     let mut random = Random::new(4);
@@ -234,6 +238,9 @@ fn mangled_files() {
             file[place] = random.below(20) as u8;
         }
         file.truncate(file.len() - random.below(3) as usize);
+        if file[1] == 2 {
+            continue;
+        }
         if let Ok(station) = read(&file) {
             assert_eq!(write(&station), Ok(file));
         }

@@ -1,5 +1,6 @@
 //! Small tools for the tests. Those without a model are for the 17132.
 
+use reference::sheet::of_levels;
 use reference::Instruction::{self, *};
 use reference::{encode, Answer, Input, Machine, Model, Peripherals, Report, Verdict};
 
@@ -33,8 +34,9 @@ pub fn run(rom: &[u16], machine: &mut Machine, input: &Input, pulse: u8, budget:
     reference::run(MODEL, rom, machine, input, pulse, budget)
 }
 
-pub fn verify(rom: &[u16], depths: &[u8]) -> Verdict {
-    reference::verify(MODEL, rom, depths)
+/// The check with a sheet of single levels.
+pub fn verify(rom: &[u16], levels: &[u8]) -> Verdict {
+    reference::verify(MODEL, rom, &of_levels(levels))
 }
 
 pub fn in_range(machine: &Machine) -> bool {

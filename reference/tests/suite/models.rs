@@ -2,6 +2,7 @@
 //! of missing cells is in `missing`.
 
 use crate::kit::*;
+use reference::sheet::of_levels;
 use reference::Instruction::{self, *};
 use reference::Model::{self, Upd17120, Upd17132};
 use reference::{encode, station, transcript};
@@ -11,6 +12,11 @@ const NEVER: u8 = 15;
 
 fn fail(word: u16, rule: u8) -> Verdict {
     Verdict::Fail { word, rule }
+}
+
+/// The check for the 17120 with a sheet of single levels.
+fn checked(rom: &[u16], levels: &[u8]) -> Verdict {
+    reference::verify(Upd17120, rom, &of_levels(levels))
 }
 
 /// One step on the 17120.
@@ -87,10 +93,10 @@ fn one_for_each_missing_cell() {
 fn one_for_the_rom() {
     for words in [769, 770, 1023, 1024, 1025, 65_536 + 768] {
         refused(&nops(words), &reset(), &quiet(), 0, 1);
-        let verdict = reference::verify(Upd17120, &nops(words), &vec![0; words]);
+        let verdict = checked(&nops(words), &vec![0; words]);
         assert_eq!(verdict, Verdict::Refused(1));
         // Before 9.
-        assert_eq!(reference::verify(Upd17120, &nops(words), &[0]), Verdict::Refused(1));
+        assert_eq!(checked(&nops(words), &[0]), Verdict::Refused(1));
     }
     refused(&[], &reset(), &quiet(), 0, 1);
     for words in [1, 767, 768] {
@@ -225,7 +231,7 @@ fn a_run_up_to_a_missing_cell() {
 /// The check: next of 767 is 768, which is no word.
 #[test]
 fn checks_at_the_last_word() {
-    let check = |program: &[u16]| reference::verify(Upd17120, program, &vec![0; program.len()]);
+    let check = |program: &[u16]| checked(program, &vec![0; program.len()]);
     let with_last = |i: Instruction| {
         let mut program = nops(768);
         program[767] = encode(i).unwrap();
@@ -248,11 +254,11 @@ fn checks_at_the_last_word() {
 #[test]
 fn checks_of_calls() {
     let program = rom(&[Call { addr: 3 }, Br { addr: 1 }, Nop, Ret]);
-    let verdict = reference::verify(Upd17120, &program, &[0, 0, NEVER, 1]);
+    let verdict = checked(&program, &[0, 0, NEVER, 1]);
     assert_eq!(verdict, Verdict::Pass);
     for addr in [768, 1023] {
         let program = rom(&[Call { addr }, Br { addr: 1 }]);
-        assert_eq!(reference::verify(Upd17120, &program, &[0, 0]), fail(0, 5));
+        assert_eq!(checked(&program, &[0, 0]), fail(0, 5));
     }
     // A RETSK's level at 766: the word after next is 768.
     let mut program = nops(768);
@@ -262,7 +268,7 @@ fn checks_of_calls() {
     program[767] = encode(Br { addr: 0 }).unwrap();
     let mut depths = vec![NEVER; 768];
     (depths[0], depths[1], depths[766], depths[767]) = (0, 1, 0, 0);
-    assert_eq!(reference::verify(Upd17120, &program, &depths), fail(766, 5));
+    assert_eq!(checked(&program, &depths), fail(766, 5));
 }
 
 /// Rule 3's MOVT needs 1,024 words, which no ROM of the 17120 has.
@@ -272,7 +278,7 @@ fn checks_of_table_references() {
         let mut program = nops(words);
         program[0] = encode(Movt).unwrap();
         program[words - 1] = encode(Br { addr: 0 }).unwrap();
-        let verdict = reference::verify(Upd17120, &program, &vec![0; words]);
+        let verdict = checked(&program, &vec![0; words]);
         assert_eq!(verdict, fail(0, 3));
     }
 }
@@ -283,12 +289,12 @@ fn checks_of_missing_operands() {
     let stay = Br { addr: 0 };
     for m in 0x40..=0x6E {
         for i in [mov(m, 1), Peek { rf: m }, Poke { rf: m }, Ld { r: 0, m }, MovTo { r: 0, m }] {
-            let verdict = reference::verify(Upd17120, &rom(&[i, stay]), &[0, 0]);
+            let verdict = checked(&rom(&[i, stay]), &[0, 0]);
             assert_eq!(verdict, Verdict::Pass);
         }
     }
     for i in [Peek { rf: 0x3F }, Poke { rf: 0 }, Get { p: 3 }] {
-        assert_eq!(reference::verify(Upd17120, &rom(&[i, stay]), &[0, 0]), fail(0, 3));
+        assert_eq!(checked(&rom(&[i, stay]), &[0, 0]), fail(0, 3));
     }
 }
 
@@ -298,7 +304,7 @@ fn files_of_the_17132() {
     let mut rom = nops(1024);
     rom[..2]
         .copy_from_slice(&[encode(mov(0x40, 5)).unwrap(), encode(Ld { r: 0, m: 0x40 }).unwrap()]);
-    let station = Station { rom, depths: vec![0; 1024], inputs: vec![quiet(); 2] };
+    let station = Station { rom, sheet: vec![0; 2048], inputs: vec![quiet(); 2] };
     let file = station::write(&station).expect("a good station");
     assert_eq!(station::read(&file), Ok(station));
     let text = "SHEET PASS\n1 000 EC05 001 0 0\n2 001 4400 002 0 0\nEND 2 2 0\n";

@@ -1,12 +1,13 @@
 //! What `station` prints: document 01, "Station file".
 
 use crate::kit::*;
+use reference::sheet::of_levels;
 use reference::station::write;
 use reference::Instruction::{self, *};
 use reference::{transcript, Input, Station};
 
-fn text(program: &[Instruction], depths: &[u8], inputs: &[Input]) -> String {
-    let station = Station { rom: rom(program), depths: depths.to_vec(), inputs: inputs.to_vec() };
+fn text(program: &[Instruction], levels: &[u8], inputs: &[Input]) -> String {
+    let station = Station { rom: rom(program), sheet: of_levels(levels), inputs: inputs.to_vec() };
     transcript(&write(&station).unwrap())
 }
 
@@ -21,7 +22,7 @@ fn the_example() {
 #[test]
 fn bad_files() {
     assert_eq!(transcript(&[]), "FILE 21\n");
-    assert_eq!(transcript(&[0, 2]), "FILE 20\n");
+    assert_eq!(transcript(&[0, 3]), "FILE 20\n");
     assert_eq!(transcript(&[0, 1, 0, 0]), "FILE 22\n");
     assert_eq!(transcript(&[0, 1, 0, 1, 0, 0, 0, 1, 9]), "FILE 23\n");
     assert_eq!(transcript(&[0, 1, 0, 1, 0, 0, 0, 0, 0, 0, 0]), "FILE 24\n");

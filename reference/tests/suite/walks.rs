@@ -1,6 +1,8 @@
 //! Random walks: what must hold of every state, ROM and input.
 
 use crate::kit::*;
+use crate::routines::shared_rom;
+use reference::sheet::of_levels;
 use reference::Instruction::{self, *};
 use reference::{decode, encode};
 use reference::{Answer, Count, Input, Machine, Model, Peripherals, Report, Verdict};
@@ -133,14 +135,14 @@ fn likely_word(random: &mut Random, length: u64) -> u16 {
 }
 
 /// An instruction on a control register, the counter or the modulo register.
-fn on_timer(random: &mut Random) -> Instruction {
+pub fn on_timer(random: &mut Random) -> Instruction {
     let rf = Peripherals::ADDRESSES[random.below(7) as usize];
     [Get { p: 2 }, Put { p: 3 }, Poke { rf: 0x11 }, Poke { rf }, Peek { rf }]
         [random.below(5) as usize]
 }
 
-/// A ROM that passes the check: six blocks of 32 words, one for each level,
-/// each ended by two branches to its front or by two returns.
+/// A ROM that passes the check, and its sheet: six blocks of 32 words, one for
+/// each level, each ended by two branches to its front or by two returns.
 fn passing_rom(random: &mut Random) -> (Vec<u16>, Vec<u8>) {
     const BLOCK: u16 = 32;
     let mut rom = Vec::new();
@@ -159,7 +161,7 @@ fn passing_rom(random: &mut Random) -> (Vec<u16>, Vec<u8>) {
             depths.push(level as u8);
         }
     }
-    (rom, depths)
+    (rom, of_levels(&depths))
 }
 
 /// An instruction that keeps its block's level.
@@ -182,16 +184,16 @@ fn inner(random: &mut Random, front: u16, level: u16) -> Instruction {
 }
 
 /// Demand 3, on lists of calls: never refused in range, never with another
-/// number than 1, and the open calls are the sheet's at every word. On a model
-/// that lacks cells a call in range may be refused with 31, and the rest holds.
-/// Answers the steps and the refusals with 31.
-fn passed_roms(model: Model, seed: u64) -> (u32, u32) {
+/// number than 1, and the open calls lie in the sheet's range at every word. On a
+/// model that lacks cells a call in range may be refused with 31, and the rest
+/// holds. Answers the steps and the refusals with 31.
+fn passed_roms(model: Model, seed: u64, make: Maker) -> (u32, u32) {
     let mut random = Random::new(seed);
     let (mut steps, mut missing) = (0, 0);
     for _ in 0..300 {
-        let (rom, depths) = passing_rom(&mut random);
-        assert_eq!(reference::verify(model, &rom, &depths), Verdict::Pass);
-        let mut walk = Walk { model, rom, depths, machine: Machine::reset(model), open: 0 };
+        let (rom, sheet) = make(&mut random);
+        assert_eq!(reference::verify(model, &rom, &sheet), Verdict::Pass);
+        let mut walk = Walk { model, rom, sheet, machine: Machine::reset(model), open: 0 };
         for _ in 0..500 {
             let (done, refused) = walk.call(&mut random);
             steps += done;
@@ -201,11 +203,14 @@ fn passed_roms(model: Model, seed: u64) -> (u32, u32) {
     (steps, missing)
 }
 
+/// What makes a ROM and a sheet that passes.
+type Maker = fn(&mut Random) -> (Vec<u16>, Vec<u8>);
+
 /// A machine on a passed ROM, and the open calls counted from the words that ran.
 struct Walk {
     model: Model,
     rom: Vec<u16>,
-    depths: Vec<u8>,
+    sheet: Vec<u8>,
     machine: Machine,
     open: u8,
 }
@@ -263,22 +268,27 @@ impl Walk {
         (report.count.steps, report.refusal != 0 && self.is_missing(report.refusal))
     }
 
-    /// The word about to run lies in the ROM, and its level is the open calls.
+    /// The word about to run lies in the ROM, and the open calls in its range.
     fn moment(&self) {
-        assert_eq!(self.depths.get(usize::from(self.machine.pc)), Some(&self.open));
+        let pc = usize::from(self.machine.pc);
+        assert!(pc < self.rom.len());
+        assert!((self.sheet[2 * pc]..=self.sheet[2 * pc + 1]).contains(&self.open));
         assert_eq!(self.machine.levels, self.open);
     }
 }
 
 #[test]
 fn passed_roms_of_the_17132() {
-    assert_eq!(passed_roms(Model::Upd17132, 5).1, 0);
+    assert_eq!(passed_roms(Model::Upd17132, 5, passing_rom).1, 0);
+    assert_eq!(passed_roms(Model::Upd17132, 25, shared_rom).1, 0);
 }
 
 #[test]
 fn passed_roms_of_the_17120() {
-    let (steps, missing) = passed_roms(Model::Upd17120, 15);
-    assert!(steps > 1_000 && missing > 1_000, "{steps} steps, {missing} refused with 31");
+    for (seed, make) in [(15, passing_rom as Maker), (35, shared_rom)] {
+        let (steps, missing) = passed_roms(Model::Upd17120, seed, make);
+        assert!(steps > 1_000 && missing > 1_000, "{steps} steps, {missing} refused with 31");
+    }
 }
 
 /// The open calls after the word at PC has run.
