@@ -7,6 +7,7 @@
 //! the 10th to the 90th percentile. A pair whose answers, records or buffers
 //! differ stops it.
 
+mod files;
 mod roms;
 mod row;
 
@@ -14,15 +15,11 @@ use std::hint::black_box;
 use std::{env, fs};
 
 use pollwezen_host::{self as proved, LentMachine};
-use reference::station::{read_into, write, write_into};
 use reference::Model::{self, Upd17120, Upd17132};
-use reference::{transcript, Input, Machine, Station, Verdict};
+use reference::{Machine, Station, Verdict};
 
 use roms::{INPUT, PULSE};
 use row::{Row, Side};
-
-/// What stands in a lent buffer before a call.
-const OLD: u8 = 0x5A;
 
 fn main() {
     let pairs: usize = env::args().nth(1).map_or(301, |n| n.parse().expect("a number of pairs"));
@@ -53,9 +50,13 @@ fn main() {
     single_steps("single steps, blinking", Upd17132, &blink, pairs);
     single_steps("single steps, blinking, 17120", Upd17120, &blink, pairs);
     single_steps("single steps, standing in HALT", Upd17132, &roms::halt(), pairs);
-    let station = roms::largest();
-    check(&station, pairs);
-    files(&station, pairs);
+    let (levels, ranges) = (roms::largest(), roms::largest_with_ranges());
+    check("verify, per word of 1,024", &levels, pairs);
+    check("verify with ranges, per word of 1,024", &ranges, pairs);
+    files::both_ways(1, &levels, pairs);
+    files::both_ways(2, &ranges, pairs);
+    files::print(&levels, pairs);
+    files::widen(pairs);
 }
 
 /// The model of the CPU.
@@ -160,16 +161,16 @@ fn single_steps(name: &str, model: Model, rom: &[u16], pairs: usize) {
 
 /// The check of a ROM that passes for the 17132. It is lent nothing that it
 /// writes.
-fn check(station: &Station, pairs: usize) {
+fn check(name: &str, station: &Station, pairs: usize) {
     const MODEL: Model = Upd17132;
-    let Station { rom, depths, .. } = station;
-    let row = Row { name: "verify, per word of 1,024", units: rom.len() as f64, pairs };
+    let Station { rom, sheet, .. } = station;
+    let row = Row { name, units: rom.len() as f64, pairs };
     let native = Side {
         lent: (),
         refill: |_: &mut ()| (),
         call: |_: &mut ()| {
-            let (rom, depths) = (black_box(rom), black_box(depths));
-            match reference::verify(black_box(MODEL), rom, depths) {
+            let (rom, sheet) = (black_box(rom), black_box(sheet));
+            match reference::verify(black_box(MODEL), rom, sheet) {
                 Verdict::Pass => (0, 0, 0),
                 Verdict::Fail { word, rule } => (254, word, rule),
                 Verdict::Refused(number) => (number, 0, 0),
@@ -180,116 +181,10 @@ fn check(station: &Station, pairs: usize) {
         lent: (),
         refill: |_: &mut ()| (),
         call: |_: &mut ()| {
-            let (rom, depths) = (black_box(rom), black_box(depths));
-            let checked = proved::verify(black_box(MODEL).number(), rom, depths);
+            let (rom, sheet) = (black_box(rom), black_box(sheet));
+            let checked = proved::verify(black_box(MODEL).number(), rom, sheet);
             (checked.number, checked.word, checked.rule)
         },
     };
     row.print(native, proved, |_, _| true);
-}
-
-/// The largest file: read, written and printed.
-fn files(station: &Station, pairs: usize) {
-    let file = write(station).expect("a good station");
-    let inputs = &file[file.len() - 11 * station.inputs.len()..];
-    read_file(station, &file, inputs, pairs);
-    write_file(station, &file, inputs, pairs);
-    print_file(&file, station.inputs.len(), pairs);
-}
-
-/// Lent buffers of the largest sizes, for a reader.
-struct Buffers<T> {
-    rom: Vec<u16>,
-    sheet: Vec<u8>,
-    inputs: Vec<T>,
-}
-
-impl<T: Copy> Buffers<T> {
-    fn new(old: T, inputs: usize) -> Buffers<T> {
-        Buffers { rom: vec![0; 1024], sheet: vec![0; 1024], inputs: vec![old; inputs] }
-    }
-
-    fn refill(&mut self, old: T) {
-        self.rom.fill(u16::from(OLD));
-        self.sheet.fill(OLD);
-        self.inputs.fill(old);
-    }
-}
-
-fn read_file(station: &Station, file: &[u8], inputs: &[u8], pairs: usize) {
-    const OLD_INPUT: Input = Input { pins: [OLD; 5], directions: [OLD; 5], release: OLD };
-    let row = Row { name: "read the largest file, per byte", units: file.len() as f64, pairs };
-    let native = Side {
-        lent: Buffers::new(OLD_INPUT, station.inputs.len()),
-        refill: |lent: &mut Buffers<Input>| lent.refill(OLD_INPUT),
-        call: |lent: &mut Buffers<Input>| {
-            let file = black_box(file);
-            match read_into(file, &mut lent.rom, &mut lent.sheet, &mut lent.inputs) {
-                Ok(counts) => (0, counts.words, counts.depths, counts.inputs),
-                Err(number) => (number, 0, 0, 0),
-            }
-        },
-    };
-    let proved = Side {
-        lent: Buffers::new(OLD, inputs.len()),
-        refill: |lent: &mut Buffers<u8>| lent.refill(OLD),
-        call: |lent: &mut Buffers<u8>| {
-            let file = black_box(file);
-            let c = proved::read(file, &mut lent.rom, &mut lent.sheet, &mut lent.inputs);
-            (c.number, c.words, c.entries, c.records)
-        },
-    };
-    row.print(native, proved, |a, b| {
-        let words = a.rom == station.rom && b.rom == station.rom;
-        let entries = a.sheet == station.depths && b.sheet == station.depths;
-        words && entries && a.inputs == station.inputs && b.inputs == inputs
-    });
-}
-
-fn write_file(station: &Station, file: &[u8], inputs: &[u8], pairs: usize) {
-    let row = Row { name: "write the largest file, per byte", units: file.len() as f64, pairs };
-    let native = Side {
-        lent: vec![OLD; file.len()],
-        refill: |out: &mut Vec<u8>| out.fill(OLD),
-        call: |out: &mut Vec<u8>| match write_into(black_box(station), out) {
-            Ok(length) => (0, length),
-            Err(number) => (number, 0),
-        },
-    };
-    let proved = Side {
-        lent: vec![OLD; file.len()],
-        refill: |out: &mut Vec<u8>| out.fill(OLD),
-        call: |out: &mut Vec<u8>| {
-            let Station { rom, depths, .. } = black_box(station);
-            let output = proved::write(rom, depths, black_box(inputs), out);
-            (output.number, output.length)
-        },
-    };
-    row.print(native, proved, |a, b| a == file && b == file);
-}
-
-/// The second emulator makes its text itself; the proved one has a lent buffer.
-fn print_file(file: &[u8], records: usize, pairs: usize) {
-    let name = "transcript of 4,095 records, per record";
-    let row = Row { name, units: records as f64, pairs };
-    let native = Side {
-        lent: String::new(),
-        refill: |text: &mut String| *text = String::new(),
-        call: |text: &mut String| {
-            *text = transcript(black_box(file));
-            (0, text.len())
-        },
-    };
-    let proved = Side {
-        lent: vec![OLD; 100_000],
-        refill: |out: &mut Vec<u8>| out.fill(OLD),
-        call: |out: &mut Vec<u8>| {
-            let output = proved::transcript(black_box(file), out);
-            (output.number, output.length)
-        },
-    };
-    row.print(native, proved, |text, out| {
-        let (front, rest) = out.split_at(text.len());
-        front == text.as_bytes() && rest.iter().all(|&byte| byte == OLD)
-    });
 }

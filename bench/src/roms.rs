@@ -1,5 +1,6 @@
 //! The ROMs that are timed. Each goes on for ever and is never refused.
 
+use reference::sheet::of_levels;
 use reference::Instruction::{self, *};
 use reference::{encode, verify, Input, Model, Station, Verdict};
 
@@ -92,32 +93,42 @@ pub fn branch() -> Vec<u16> {
     rom(&[Br { addr: 0 }])
 }
 
-/// Words of most kinds in blocks of eight, with a sheet that passes: 80 blocks
-/// at level 0, which call 32 at level 1, which call 16 at level 2.
-fn mixed() -> (Vec<u16>, Vec<u8>) {
-    let level = |block: u16| match block {
-        0..=79 => 0,
-        80..=111 => 1,
-        _ => 2,
-    };
-    let rom = (0..128).flat_map(|block| match level(block) {
-        0 => rom(&main_block(block)),
-        1 => rom(&calling_block(block)),
+/// Words of a block.
+const BLOCK: u16 = 8;
+/// The first block of each level above 0, and how many blocks there are.
+const CALLING: u16 = 80;
+const CALLED: u16 = 112;
+const BLOCKS: u16 = 128;
+
+/// Words of most kinds in blocks of eight: 80 blocks at level 0, which call 32 at
+/// level 1, which call 16 at level 2. Shared, half of the main blocks call one of
+/// the last 16 themselves.
+fn mixed(shared: bool) -> Vec<u16> {
+    let blocks = (0..BLOCKS).flat_map(|block| match block {
+        0..CALLING if shared && block % 2 == 1 => rom(&main_block(block, CALLED + block % 16)),
+        0..CALLING => rom(&main_block(block, CALLING + block % 32)),
+        CALLING..CALLED => rom(&calling_block(block)),
         _ => rom(&called_block()),
     });
-    (rom.collect(), (0..1024).map(|word| level(word / 8)).collect())
+    blocks.collect()
 }
 
-fn main_block(block: u16) -> [Instruction; 8] {
+/// The level of each word of `mixed`.
+pub fn levels() -> Vec<u8> {
+    let level = |block| u8::from(block >= CALLING) + u8::from(block >= CALLED);
+    (0..BLOCKS * BLOCK).map(|word| level(word / BLOCK)).collect()
+}
+
+fn main_block(block: u16, called: u16) -> [Instruction; 8] {
     [
         AddMN { m: 0x10, n: 3 },
         Ske { m: 0x10, n: 5 },
-        Br { addr: 8 * block + 3 },
+        Br { addr: BLOCK * block + 3 },
         SubcRM { r: 2, m: 0x21 },
-        Call { addr: 8 * (80 + block % 32) },
+        Call { addr: BLOCK * called },
         Ld { r: 4, m: 0x10 },
         MovMN { m: 0x70, n: 9 },
-        Br { addr: 8 * ((block + 1) % 80) },
+        Br { addr: BLOCK * ((block + 1) % CALLING) },
     ]
 }
 
@@ -127,7 +138,7 @@ fn calling_block(block: u16) -> [Instruction; 8] {
         Sklt { m: 0x31, n: 8 },
         Ret,
         Movt,
-        Call { addr: 8 * (112 + block % 16) },
+        Call { addr: BLOCK * (CALLED + block % 16) },
         OrRM { r: 5, m: 0x32 },
         AndMN { m: 0x33, n: 7 },
         Retsk,
@@ -147,9 +158,20 @@ fn called_block() -> [Instruction; 8] {
     ]
 }
 
-/// The largest station: mixed words, a sheet that passes, and 4,095 input records.
+/// A station of the largest size, whose sheet passes, with 4,095 input records.
+fn station(rom: Vec<u16>, sheet: Vec<u8>) -> Station {
+    assert_eq!(verify(Model::Upd17132, &rom, &sheet), Verdict::Pass);
+    Station { rom, sheet, inputs: vec![INPUT; 4095] }
+}
+
+/// The largest station with one level at each word.
 pub fn largest() -> Station {
-    let (rom, depths) = mixed();
-    assert_eq!(verify(Model::Upd17132, &rom, &depths), Verdict::Pass);
-    Station { rom, depths, inputs: vec![INPUT; 4095] }
+    station(mixed(false), of_levels(&levels()))
+}
+
+/// The largest station with a range of two levels at the shared words.
+pub fn largest_with_ranges() -> Station {
+    let lowests = levels().into_iter().map(|level| level.min(1));
+    let entries = lowests.zip(levels()).flat_map(|(lowest, highest)| [lowest, highest]);
+    station(mixed(true), entries.collect())
 }

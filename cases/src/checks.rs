@@ -12,21 +12,43 @@ use crate::Bench;
 pub struct Checks {
     model: u8,
     rom: Vec<u16>,
+    /// Two bytes an entry.
     sheet: Vec<u8>,
     at: usize,
 }
 
+/// An entry: one level, or the lowest and the highest.
+fn entry(text: &str) -> Result<[u8; 2], String> {
+    match text.split_once('-') {
+        Some((lowest, highest)) => Ok([byte(lowest)?, byte(highest)?]),
+        None => Ok([byte(text)?; 2]),
+    }
+}
+
+/// The halves of an entry that a row of values goes to.
+type Halves = std::ops::Range<usize>;
+
 impl Checks {
-    fn fill(&mut self, count: usize, entry: u8, word: u16) {
-        (self.rom, self.sheet, self.at) = (vec![word; count], vec![entry; count], 0);
+    fn fill(&mut self, count: usize, entry: [u8; 2], word: u16) {
+        (self.rom, self.sheet, self.at) = (vec![word; count], entry.repeat(count), 0);
     }
 
-    fn put(&mut self, entry: u8, word: u16) {
+    fn put(&mut self, entry: [u8; 2], word: u16) {
         let count = self.at + 1;
         self.rom.resize(count.max(self.rom.len()), 0);
-        self.sheet.resize(count.max(self.sheet.len()), 0);
-        (self.rom[self.at], self.sheet[self.at]) = (word, entry);
+        self.sheet.resize((2 * count).max(self.sheet.len()), 0);
+        self.rom[self.at] = word;
+        self.sheet[2 * self.at..2 * count].copy_from_slice(&entry);
         self.at = count;
+    }
+
+    /// So many bytes of the sheet, those that come as the last entry.
+    fn lengthen(&mut self, bytes: usize) {
+        let last = self.sheet.last_chunk().copied().unwrap_or([0; 2]);
+        while self.sheet.len() < bytes {
+            self.sheet.push(last[self.sheet.len() % 2]);
+        }
+        self.sheet.truncate(bytes);
     }
 
     fn check(&self, emulator: &dyn Emulator) -> String {
@@ -37,14 +59,21 @@ impl Checks {
         }
     }
 
-    /// With each entry from one to another at a place.
-    fn entries(&mut self, at: usize, values: [u8; 2], emulator: &dyn Emulator) -> Option<String> {
-        let old = *self.sheet.get(at)?;
-        let told = sweep((values[0]..=values[1]).map(|entry| {
-            self.sheet[at] = entry;
-            Some((format!("{entry:02X}"), self.check(emulator)))
+    /// With each value from one to another in halves of the entry at a place.
+    fn entries(
+        &mut self,
+        at: usize,
+        halves: Halves,
+        values: [u8; 2],
+        emulator: &dyn Emulator,
+    ) -> Option<String> {
+        let places = 2 * at + halves.start..2 * at + halves.end;
+        let old = self.sheet.get(places.clone())?.to_vec();
+        let told = sweep((values[0]..=values[1]).map(|value| {
+            self.sheet[places.clone()].fill(value);
+            Some((format!("{value:02X}"), self.check(emulator)))
         }));
-        self.sheet[at] = old;
+        self.sheet[places].copy_from_slice(&old);
         told
     }
 
@@ -74,12 +103,11 @@ impl Bench for Checks {
             return Ok(());
         }
         match line.split(' ').collect::<Vec<_>>()[..] {
-            ["fill", count, entry, word_] => self.fill(hex(count)?, byte(entry)?, word(word_)?),
+            ["fill", count, filled, word_] => self.fill(hex(count)?, entry(filled)?, word(word_)?),
             ["at", place] => self.at = hex(place)?,
-            ["sheet", count] => {
-                self.sheet.resize(hex(count)?, self.sheet.last().copied().unwrap_or(0))
-            }
-            [entry, word_] => self.put(byte(entry)?, word(word_)?),
+            ["sheet", count] => self.lengthen(2 * hex(count)?),
+            ["bytes", count] => self.lengthen(hex(count)?),
+            [put, word_] => self.put(entry(put)?, word(word_)?),
             _ => return Err(format!("{line} is no line of a check")),
         }
         Ok(())
@@ -88,7 +116,14 @@ impl Bench for Checks {
     fn got(&mut self, line: &str, _: &str, emulator: &dyn Emulator) -> Result<String, String> {
         let told = match line.split(' ').collect::<Vec<_>>()[..] {
             ["check"] => Some(self.check(emulator)),
-            ["entries", at, a, b] => self.entries(hex(at)?, [byte(a)?, byte(b)?], emulator),
+            [half @ ("entries" | "lowests" | "highests"), at, a, b] => {
+                let halves = match half {
+                    "lowests" => 0..1,
+                    "highests" => 1..2,
+                    _ => 0..2,
+                };
+                self.entries(hex(at)?, halves, [byte(a)?, byte(b)?], emulator)
+            }
             ["words", at, a, b] => self.words(hex(at)?, [word(a)?, word(b)?], emulator),
             _ => return Err("no check".to_string()),
         };

@@ -4,12 +4,12 @@
 
 use pollwezen_host::{self as library, OutputReply, RunReply};
 use reference::station::{self, read_into, write_into};
-use reference::{Answer, Count, Input, Machine, Model, Report, Verdict};
+use reference::{sheet, Answer, Count, Input, Machine, Model, Report, Verdict};
 
 use crate::words::Row;
 
-/// A station, or the buffers that a reader fills with one. Inputs are eleven
-/// bytes a record.
+/// A station, or the buffers that a reader fills with one. The sheet has two bytes
+/// an entry, and the inputs have eleven a record.
 pub struct Station {
     pub rom: Vec<u16>,
     pub sheet: Vec<u8>,
@@ -50,6 +50,9 @@ pub trait Emulator {
     fn read(&self, file: &[u8], held: &mut Station, lent: [usize; 3]) -> Result<[usize; 3], u8>;
     /// The bytes of the file, or the refusal.
     fn write(&self, station: &Station, out: &mut [u8]) -> Result<usize, u8>;
+    /// Makes a sheet of single levels into one of ranges: its bytes, or the
+    /// refusal.
+    fn widen(&self, levels: &[u8], out: &mut [u8]) -> Result<usize, u8>;
     /// The bytes of the text, or the refusal.
     fn print(&self, file: &[u8], out: &mut [u8]) -> Result<usize, u8>;
 }
@@ -136,6 +139,10 @@ impl Emulator for Library {
         length(library::write(&station.rom, &station.sheet, &station.inputs, out))
     }
 
+    fn widen(&self, levels: &[u8], out: &mut [u8]) -> Result<usize, u8> {
+        length(library::widen(levels, out))
+    }
+
     fn print(&self, file: &[u8], out: &mut [u8]) -> Result<usize, u8> {
         length(library::transcript(file, out))
     }
@@ -147,6 +154,12 @@ pub struct Second;
 fn record(bytes: &[u8]) -> Input {
     let five = |at: usize| [0, 1, 2, 3, 4].map(|k| bytes[at + k]);
     Input { pins: five(0), directions: five(5), release: bytes[10] }
+}
+
+/// Bytes to the front of a buffer: how many, or 25.
+fn put(bytes: &[u8], out: &mut [u8]) -> Result<usize, u8> {
+    out.get_mut(..bytes.len()).ok_or(25)?.copy_from_slice(bytes);
+    Ok(bytes.len())
 }
 
 fn coded(word: Result<u16, u8>) -> (u8, u16) {
@@ -218,7 +231,7 @@ impl Emulator for Second {
         let bytes =
             records.iter().flat_map(|i| [&i.pins[..], &i.directions, &[i.release]].concat());
         inputs.iter_mut().zip(bytes).for_each(|(place, byte)| *place = byte);
-        counts.map(|counts| [counts.words, counts.depths, counts.inputs])
+        counts.map(|counts| [counts.words, counts.entries, counts.inputs])
     }
 
     /// It takes whole records. A part of one is 22 behind what comes before it
@@ -227,18 +240,21 @@ impl Emulator for Second {
         let records = station.inputs.chunks_exact(RECORD);
         let part = !records.remainder().is_empty();
         let inputs = if part { vec![] } else { records.map(record).collect() };
-        let (rom, depths) = (station.rom.clone(), station.sheet.clone());
-        let station = reference::Station { rom, depths, inputs };
+        let (rom, sheet) = (station.rom.clone(), station.sheet.clone());
+        let station = reference::Station { rom, sheet, inputs };
         if part {
             return station::write(&station).and(Err(22));
         }
         write_into(&station, out)
     }
 
+    /// It makes its sheet itself.
+    fn widen(&self, levels: &[u8], out: &mut [u8]) -> Result<usize, u8> {
+        put(&sheet::of_levels(levels), out)
+    }
+
     /// It makes its text itself.
     fn print(&self, file: &[u8], out: &mut [u8]) -> Result<usize, u8> {
-        let text = reference::transcript(file);
-        out.get_mut(..text.len()).ok_or(25)?.copy_from_slice(text.as_bytes());
-        Ok(text.len())
+        put(reference::transcript(file).as_bytes(), out)
     }
 }

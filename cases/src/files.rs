@@ -1,130 +1,59 @@
-//! Station files, read, written and printed, with what the lent buffers then
-//! hold. The lines are told in data/files.cases and data/texts.cases.
+//! Station files, read, written and printed, and sheets widened, with what the
+//! lent buffers then hold. The lines are told in data/files.cases and
+//! data/texts.cases.
 
 use crate::emulators::{Emulator, Station, RECORD};
+use crate::lent::{doubled, file_of, form_of, read, text, told, widen, write, Sizes, BEHIND};
 use crate::scan::{byte, hex, sweep, Head};
 use crate::Bench;
-
-/// What stands in a buffer before a call, and how many such places lie behind
-/// what is lent.
-const MARK: u8 = 0xA5;
-const WORD_MARK: u16 = 0xA5A5;
-const BEHIND: usize = 16;
-
-/// More bytes than any text has.
-const TEXT: usize = 100_000;
 
 #[derive(Default)]
 pub struct Files {
     bytes: Vec<u8>,
-    /// How many words, entries and bytes of inputs, where the bytes are parts
-    /// of a station and no file.
-    parts: Option<[usize; 3]>,
+    /// Of what, where the bytes are parts of a station and no file.
+    parts: Option<Parts>,
     /// What is lent, where it is not more than enough.
-    room: Option<[usize; 3]>,
+    room: Option<Sizes>,
     out: Option<usize>,
 }
 
-/// What is told, and whether the buffers are as they must be.
-fn told(outcome: String, right: bool) -> String {
-    outcome + if right { "" } else { " with WRONG buffers" }
-}
-
-/// Does a buffer hold the mark from a place on?
-fn kept<T: PartialEq>(buffer: &[T], from: usize, mark: T) -> bool {
-    buffer.iter().skip(from).all(|place| *place == mark)
-}
-
-/// The file of a station.
-fn file_of(station: &Station) -> Vec<u8> {
-    let Station { rom, sheet, inputs } = station;
-    let count = |n: usize| (n as u16).to_be_bytes();
-    let words: Vec<u8> = rom.iter().flat_map(|word| word.to_be_bytes()).collect();
-    let counts = [rom.len(), sheet.len(), inputs.len() / RECORD].map(count);
-    [&[0, 1][..], &counts[0], &words, &counts[1], sheet, &counts[2], inputs].concat()
-}
-
-/// Writes a station into so much room.
-fn write(station: &Station, room: usize, emulator: &dyn Emulator) -> String {
-    let file = file_of(station);
-    let mut out = vec![MARK; room + BEHIND];
-    match emulator.write(station, &mut out[..room]) {
-        Ok(size) => {
-            let right = size == file.len() && out.starts_with(&file) && kept(&out, size, MARK);
-            told(format!("WRITTEN {size}"), right)
-        }
-        Err(number) => told(format!("REFUSED {number}"), kept(&out, 0, MARK)),
-    }
-}
-
-/// Reads a file into so much room, and writes what was read.
-fn read(file: &[u8], room: [usize; 3], emulator: &dyn Emulator) -> String {
-    let [words, entries, bytes] = room.map(|room| room + BEHIND);
-    let (rom, sheet, inputs) = (vec![WORD_MARK; words], vec![MARK; entries], vec![MARK; bytes]);
-    let mut held = Station { rom, sheet, inputs };
-    let counts = emulator.read(file, &mut held, room);
-    let [words, entries, records] = counts.unwrap_or_default();
-    let behind = kept(&held.rom, words, WORD_MARK)
-        && kept(&held.sheet, entries, MARK)
-        && kept(&held.inputs, RECORD * records, MARK);
-    if let Err(number) = counts {
-        return told(format!("REFUSED {number}"), behind);
-    }
-    held.rom.truncate(words);
-    held.sheet.truncate(entries);
-    held.inputs.truncate(RECORD * records);
-    let size = file.len();
-    let right = file_of(&held) == file
-        && write(&held, size + BEHIND, emulator) == format!("WRITTEN {size}")
-        && write(&held, size - 1, emulator) == "REFUSED 25";
-    told(format!("STATION {words} {entries} {records}"), behind && right)
-}
-
-/// The text of a file as one line: printed into more room than any text needs
-/// and into just enough, and refused with a byte less.
-fn text(file: &[u8], emulator: &dyn Emulator) -> String {
-    let mut out = vec![MARK; TEXT + BEHIND];
-    let size = match emulator.print(file, &mut out[..TEXT]) {
-        Ok(size) => size,
-        Err(number) => return told(format!("REFUSED {number}"), kept(&out, 0, MARK)),
-    };
-    let mut tight = vec![MARK; size + BEHIND];
-    let mut short = tight.clone();
-    let right = kept(&out, size, MARK)
-        && emulator.print(file, &mut short[..size - 1]) == Err(25)
-        && kept(&short, 0, MARK)
-        && emulator.print(file, &mut tight[..size]) == Ok(size)
-        && tight == out[..size + BEHIND];
-    let text = String::from_utf8_lossy(&out[..size]).into_owned();
-    match text.strip_suffix('\n') {
-        Some(lines) => told(lines.replace('\n', ", "), right),
-        None => text + " without an end",
-    }
+/// Words, the sheet and inputs of a station.
+#[derive(Clone, Copy)]
+struct Parts {
+    sizes: Sizes,
+    /// Has the sheet one byte an entry here, for both halves?
+    single: bool,
 }
 
 impl Files {
     /// The station whose parts the bytes are; none where they are too few.
-    fn station(&self, [words, entries, inputs]: [usize; 3]) -> Option<Station> {
+    fn station(&self, Parts { sizes, single }: Parts) -> Option<Station> {
+        let [words, listed, inputs] = sizes;
         let (raw, rest) = self.bytes.split_at_checked(2 * words)?;
-        let (sheet, rest) = rest.split_at_checked(entries)?;
+        let (listed, rest) = rest.split_at_checked(listed)?;
         let rom = raw.chunks_exact(2).map(|pair| u16::from_be_bytes([pair[0], pair[1]])).collect();
-        Some(Station { rom, sheet: sheet.to_vec(), inputs: rest.get(..inputs)?.to_vec() })
+        let sheet = if single { doubled(listed) } else { listed.to_vec() };
+        Some(Station { rom, sheet, inputs: rest.get(..inputs)?.to_vec() })
     }
 
     /// What comes of the first bytes, or of the parts; none where there are not
     /// so many.
     fn outcome(&self, size: usize, emulator: &dyn Emulator) -> Option<String> {
+        let enough = |size| [size, 2 * size, size];
         let Some(parts) = self.parts else {
-            return Some(read(self.bytes.get(..size)?, self.room.unwrap_or([size; 3]), emulator));
+            let room = self.room.unwrap_or(enough(size));
+            return Some(read(self.bytes.get(..size)?, room, emulator));
         };
         let station = self.station(parts)?;
-        let file = file_of(&station);
-        let outcome = write(&station, self.out.unwrap_or(file.len() + BEHIND), emulator);
+        let Station { rom, sheet, inputs } = &station;
+        let again = format!("STATION {} {} {}", rom.len(), sheet.len() / 2, inputs.len() / RECORD);
+        let most = 8 + 2 * rom.len() + sheet.len() + inputs.len();
+        let outcome = write(&station, self.out.unwrap_or(most + BEHIND), emulator);
         if outcome.starts_with("REFUSED") {
             return Some(outcome);
         }
-        let again = format!("STATION {} {} {}", parts[0], parts[1], parts[2] / RECORD);
-        Some(told(outcome, read(&file, [file.len(); 3], emulator) == again))
+        let file = file_of(&station, form_of(sheet));
+        Some(told(outcome, read(&file, enough(file.len()), emulator) == again))
     }
 
     /// With each byte at a place.
@@ -143,8 +72,8 @@ fn bytes(texts: &[&str]) -> Result<Vec<u8>, String> {
     texts.iter().map(|text| byte(text)).collect()
 }
 
-fn three(w: &str, e: &str, i: &str) -> Result<Option<[usize; 3]>, String> {
-    Ok(Some([hex(w)?, hex(e)?, hex(i)?]))
+fn three(w: &str, e: &str, i: &str) -> Result<Sizes, String> {
+    Ok([hex(w)?, hex(e)?, hex(i)?])
 }
 
 impl Bench for Files {
@@ -159,9 +88,18 @@ impl Bench for Files {
             ["times", n, ref texts @ ..] => self.bytes.extend(bytes(texts)?.repeat(hex(n)?)),
             ["cut", size] => self.bytes.truncate(hex(size)?),
             ["set", at, value] => *self.bytes.get_mut(hex(at)?).ok_or("past them")? = byte(value)?,
-            ["room", w, e, i] => self.room = three(w, e, i)?,
+            ["room", w, e, i] => {
+                let [words, entries, bytes] = three(w, e, i)?;
+                self.room = Some([words, 2 * entries, bytes]);
+            }
+            ["lent", w, b, i] => self.room = Some(three(w, b, i)?),
             ["out", room] => self.out = Some(hex(room)?),
-            ["parts", w, e, i] => self.parts = three(w, e, i)?,
+            ["parts", w, e, i] => {
+                self.parts = Some(Parts { sizes: three(w, e, i)?, single: true });
+            }
+            ["ranges", w, b, i] => {
+                self.parts = Some(Parts { sizes: three(w, b, i)?, single: false });
+            }
             ref texts => self.bytes.extend(bytes(texts)?),
         }
         Ok(())
@@ -172,6 +110,10 @@ impl Bench for Files {
         let told = match line.split(' ').collect::<Vec<_>>()[..] {
             ["try"] => self.outcome(self.bytes.len(), emulator),
             ["text"] => Some(text(&self.bytes, emulator)),
+            ["widen"] => {
+                let room = self.out.unwrap_or(2 * self.bytes.len() + BEHIND);
+                Some(widen(&self.bytes, room, emulator))
+            }
             ["cuts", a, b] => sweep((hex(a)?..=hex(b)?).map(cut)),
             ["each", at, a, b] => self.each(hex(at)?, [byte(a)?, byte(b)?], emulator),
             _ => return Err("no try".to_string()),

@@ -19,6 +19,7 @@
 mod checks;
 mod emulators;
 mod files;
+mod lent;
 #[cfg(feature = "faults")]
 mod planted;
 mod programs;
@@ -55,11 +56,15 @@ fn programs() -> Box<dyn Bench> {
     Box::new(programs::Programs::new())
 }
 
+fn checks() -> Box<dyn Bench> {
+    Box::<checks::Checks>::default()
+}
+
 fn files() -> Box<dyn Bench> {
     Box::<files::Files>::default()
 }
 
-const KINDS: [Kind; 12] = [
+const KINDS: [Kind; 14] = [
     Kind { name: "printed", bench: || Box::new(words::Words) },
     Kind { name: "words", bench: || Box::new(words::Words) },
     Kind { name: "data", bench: programs },
@@ -69,8 +74,10 @@ const KINDS: [Kind; 12] = [
     Kind { name: "timer", bench: programs },
     Kind { name: "host", bench: programs },
     Kind { name: "models", bench: programs },
-    Kind { name: "checks", bench: || Box::<checks::Checks>::default() },
+    Kind { name: "checks", bench: checks },
+    Kind { name: "ranges", bench: checks },
     Kind { name: "files", bench: files },
+    Kind { name: "forms", bench: files },
     Kind { name: "texts", bench: files },
 ];
 

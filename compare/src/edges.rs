@@ -150,24 +150,27 @@ impl Call {
     }
 }
 
-/// The check of a ROM of so many NOPs at level 0, with a sheet of its length,
-/// one entry less and one more. Only after 1,023 next is 0.
+/// The check of a ROM of so many NOPs at level 0, with a sheet of two bytes a word,
+/// an entry or a byte less and more, and a byte a word. Only after 1,023 next is 0.
 fn check(edge: Edge, tally: &mut Tally) -> Result<(), Finding> {
     let words = edge.value as usize;
+    let right = 2 * words;
     let last = VerdictReply { number: pair::FAIL, word: (words as u16).wrapping_sub(1), rule: 4 };
     let alone = |number| VerdictReply { number, word: 0, rule: 0 };
-    for entries in [words.saturating_sub(1), words, words + 1] {
+    for bytes in
+        [0, words, right.saturating_sub(2), right.saturating_sub(1), right, right + 1, right + 2]
+    {
         let told = match words {
             _ if !edge.in_range() => alone(1),
-            _ if entries != words => alone(9),
+            _ if bytes != right => alone(9),
             1_024 => alone(pair::DONE),
             _ => last,
         };
-        let sheet = vec![0; entries];
+        let sheet = vec![0; bytes];
         let checked = pair::verify(edge.model, &nops()[..words], &sheet)?;
         if checked != told {
             return Err(Finding(format!(
-                "the check of {words} words with {entries} entries for the {:?}: \
+                "the check of {words} words with a sheet of {bytes} bytes for the {:?}: \
                  both answer {checked:?}, by documents 01 and 02 {told:?}\n",
                 edge.model
             )));

@@ -8,52 +8,83 @@ use reference::station::{read, read_into, write, write_into};
 use reference::{Input, Station};
 
 use crate::counts;
+use crate::events::files as events;
 use crate::files::first_line;
 use crate::host::{self, OutputReply, ReadReply};
 use crate::pair::{place, Finding};
 use crate::random::Random;
-use crate::stations::{damage, faults, good_file, spoil};
+use crate::stations::{faults, file_of, flat, form_of, spoil, Filed};
 use crate::tally::Tally;
+use crate::widening::widens;
 
 /// What stands in a lent buffer before a call.
-const OLD: u8 = 0x5A;
+pub const OLD: u8 = 0x5A;
 const OLD_WORD: u16 = 0x5A5A;
 /// Bytes of an input record.
 const RECORD: usize = 11;
 
 /// One station, its file damaged, read and printed, and itself spoiled and
-/// written.
+/// written; and a sheet widened.
 pub fn entry(random: &mut Random, _: u64, tally: &mut Tally) -> Result<(), Finding> {
-    let (mut station, mut file) = good_file(random)?;
+    let filed = Filed::any(random);
+    let mut file = filed.file();
     let damages = faults(random);
-    (0..damages).for_each(|_| damage(random, &station, &mut file));
+    if damages == 0 {
+        goes_back(&filed, &file, tally)?;
+    }
+    (0..damages).for_each(|_| filed.damage(random, &mut file));
     reads(random, &file, tally)?;
     prints(random, &file, tally)?;
+    let mut station = filed.station;
     let spoils = faults(random);
     let part = (0..spoils).fold(false, |part, _| spoil(random, &mut station) || part);
     writes(random, &station, part, tally)?;
     if damages == 2 && spoils == 2 {
         tally.see("files and stations with two faults");
     }
-    Ok(())
+    widens(random, tally)
 }
 
 /// Room for so much, one less or more.
-fn room(random: &mut Random, needed: usize) -> usize {
-    match random.below(6) {
+pub fn room(random: &mut Random, needed: usize) -> usize {
+    match random.below(7) {
         0 => needed.saturating_sub(1),
         1 => random.below(needed as u64 + 1) as usize,
         2 => needed + 1 + random.below(20) as usize,
+        3 => needed / 2,
         _ => needed,
     }
 }
 
+/// A good file, of either form, is read as its station, and that is written in the
+/// lowest form that has it.
+fn goes_back(filed: &Filed, file: &[u8], tally: &mut Tally) -> Result<(), Finding> {
+    let Station { rom, sheet, inputs } = &filed.station;
+    let inputs = flat(inputs);
+    let mut rom_read = vec![OLD_WORD; rom.len()];
+    let (mut sheet_read, mut inputs_read) = (vec![OLD; sheet.len()], vec![OLD; inputs.len()]);
+    let counts = host::read(file, &mut rom_read, &mut sheet_read, &mut inputs_read);
+    let told = file_of(&filed.station, form_of(&filed.station));
+    let mut out = vec![OLD; told.len()];
+    let output = host::write(&rom_read, &sheet_read, &inputs_read, &mut out);
+    let right = counts.number == 0 && rom_read == *rom && sheet_read == *sheet;
+    if right && inputs_read == inputs && output.number == 0 && out == told {
+        tally.compared += 2;
+        events::count_back(file, sheet, tally);
+        return Ok(());
+    }
+    Err(Finding(format!(
+        "a good file is read with {counts:?} and written with {output:?}\n\
+         file: {file:02X?}\nwritten: {out:02X?}\ntold: {told:02X?}\n"
+    )))
+}
+
 fn reads(random: &mut Random, file: &[u8], tally: &mut Tally) -> Result<(), Finding> {
-    let (words, entries, records) = match read(file) {
-        Ok(station) => (station.rom.len(), station.depths.len(), station.inputs.len()),
-        Err(_) => (1024, 1024, 4095),
+    let (words, bytes, records) = match read(file) {
+        Ok(station) => (station.rom.len(), station.sheet.len(), station.inputs.len()),
+        Err(_) => (host::WORDS, host::SHEET_BYTES, host::INPUT_BYTES / RECORD),
     };
-    let rooms = [room(random, words), room(random, entries), room(random, RECORD * records)];
+    let rooms = [room(random, words), room(random, bytes), room(random, RECORD * records)];
     let mut rom = vec![OLD_WORD; rooms[0]];
     let (mut sheet, mut inputs) = (vec![OLD; rooms[1]], vec![OLD; rooms[2]]);
     let counts = host::read(file, &mut rom, &mut sheet, &mut inputs);
@@ -63,7 +94,7 @@ fn reads(random: &mut Random, file: &[u8], tally: &mut Tally) -> Result<(), Find
     let old = Input { pins: [OLD; 5], directions: [OLD; 5], release: OLD };
     let mut records2 = vec![old; rooms[2] / RECORD];
     let answer = match read_into(file, &mut rom2, &mut sheet2, &mut records2) {
-        Ok(c) => ReadReply { number: 0, words: c.words, entries: c.depths, records: c.inputs },
+        Ok(c) => ReadReply { number: 0, words: c.words, entries: c.entries, records: c.inputs },
         Err(number) => ReadReply { number, words: 0, entries: 0, records: 0 },
     };
     let mut inputs2 = flat(&records2);
@@ -71,7 +102,7 @@ fn reads(random: &mut Random, file: &[u8], tally: &mut Tally) -> Result<(), Find
 
     let first = answers(&counts, &answer)
         .or_else(|| place("word", &rom, &rom2))
-        .or_else(|| place("sheet entry", &sheet, &sheet2))
+        .or_else(|| place("sheet byte", &sheet, &sheet2))
         .or_else(|| place("input byte", &inputs, &inputs2));
     if let Some(first) = first {
         return Err(Finding(format!(
@@ -80,7 +111,7 @@ fn reads(random: &mut Random, file: &[u8], tally: &mut Tally) -> Result<(), Find
         )));
     }
     tally.compared += 1;
-    tally.see(read_with(counts.number));
+    events::count_read(file, counts.number, rooms, tally);
     Ok(())
 }
 
@@ -95,10 +126,11 @@ fn writes(
     if part {
         inputs.push(0);
     }
-    let needed = 8 + 2 * station.rom.len() + station.depths.len() + inputs.len();
+    let sheet_bytes = station.sheet.len() / 2 * form_of(station);
+    let needed = 8 + 2 * station.rom.len() + sheet_bytes + inputs.len();
     let mut out = vec![OLD; room(random, needed)];
     let mut out2 = out.clone();
-    let output = host::write(&station.rom, &station.depths, &inputs, &mut out);
+    let output = host::write(&station.rom, &station.sheet, &inputs, &mut out);
     let written = if part { part_refused(station) } else { write_into(station, &mut out2) };
     let answer = match written {
         Ok(length) => OutputReply { number: 0, length },
@@ -113,7 +145,7 @@ fn writes(
         )));
     }
     tally.compared += 1;
-    tally.see(written_with(output.number));
+    events::count_written(station.rom.len(), &station.sheet, output.number, tally);
     Ok(())
 }
 
@@ -148,39 +180,11 @@ fn prints(random: &mut Random, file: &[u8], tally: &mut Tally) -> Result<(), Fin
         )));
     }
     tally.compared += 1;
-    tally.see(if output.number == 0 { "texts" } else { "texts without room" });
+    events::count_text(file, &text, output.number, tally);
     counts::end(file, &text, tally)
 }
 
 /// Two answers that differ.
-fn answers<T: PartialEq + Debug>(proved: &T, second: &T) -> Option<String> {
+pub fn answers<T: PartialEq + Debug>(proved: &T, second: &T) -> Option<String> {
     (proved != second).then(|| format!("proved {proved:?}, second {second:?}"))
-}
-
-fn flat(inputs: &[Input]) -> Vec<u8> {
-    let bytes = |i: &Input| i.pins.into_iter().chain(i.directions).chain([i.release]);
-    inputs.iter().flat_map(bytes).collect()
-}
-
-fn read_with(number: u8) -> &'static str {
-    match number {
-        0 => "files read",
-        20 => "files refused with 20",
-        21 => "files refused with 21",
-        22 => "files refused with 22",
-        23 => "files refused with 23",
-        24 => "files refused with 24",
-        25 => "files refused with 25",
-        _ => "files refused with another number",
-    }
-}
-
-fn written_with(number: u8) -> &'static str {
-    match number {
-        0 => "stations written",
-        22 => "stations refused with 22",
-        23 => "stations refused with 23",
-        25 => "stations refused with 25",
-        _ => "stations refused with another number",
-    }
 }

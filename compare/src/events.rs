@@ -1,7 +1,10 @@
 //! Events at boundaries that single steps must meet: those of control, and
 //! operands that the index or a pointer moves.
 
+pub mod files;
+pub mod lists;
 pub mod missing;
+pub mod sheets;
 pub mod timer;
 
 use reference::{Machine, Model};

@@ -10,25 +10,31 @@ use reference::station::{read, write};
 use reference::transcript;
 
 use crate::counts;
+use crate::events::files::form;
 use crate::pair::Finding;
 use crate::random::Random;
-use crate::stations::{damage, faults, good_file};
+use crate::stations::{faults, file_of, form_of, Filed};
 use crate::tally::Tally;
 
 /// Where the program `station` stands.
 pub static PROGRAM: OnceLock<PathBuf> = OnceLock::new();
 
-/// One file: good, or damaged once or twice.
+/// One file: good, or damaged once or twice. One that is read is written in the
+/// lowest form that has its station.
 pub fn file(random: &mut Random, _: u64, tally: &mut Tally) -> Result<(), Finding> {
-    let (station, mut file) = good_file(random)?;
-    if read(&file).as_ref() != Ok(&station) {
-        return Err(Finding(format!("a written file reads as another station\n{file:02X?}\n")));
+    let filed = Filed::any(random);
+    let mut file = filed.file();
+    if read(&file).as_ref() != Ok(&filed.station) {
+        return Err(Finding(format!("a good file reads as another station\n{file:02X?}\n")));
     }
-    (0..faults(random)).for_each(|_| damage(random, &station, &mut file));
+    (0..faults(random)).for_each(|_| filed.damage(random, &mut file));
     if let Ok(again) = read(&file) {
-        if write(&again).as_ref() != Ok(&file) {
+        let written = write(&again);
+        let lowest = form_of(&again);
+        let as_it_was = usize::from(file[1]) == lowest;
+        if written != Ok(file_of(&again, lowest)) || as_it_was && written.as_ref() != Ok(&file) {
             return Err(Finding(format!(
-                "a station that was read writes another file\n{file:02X?}\n"
+                "a station that was read writes another file\n{file:02X?}\n{written:02X?}\n"
             )));
         }
     }
@@ -46,6 +52,9 @@ fn compare(file: &[u8], tally: &mut Tally) -> Result<(), Finding> {
     if printed == expected.as_bytes() {
         tally.compared += 1;
         tally.see(kind(&expected));
+        if form(file) == Some(2) {
+            tally.see(kind_of_form_2(&expected));
+        }
         return counts::end(file, &expected, tally);
     }
     let printed = String::from_utf8_lossy(&printed).into_owned();
@@ -92,5 +101,17 @@ fn kind(text: &str) -> &'static str {
         ["SHEET", "PASS", ..] => "files whose sheet passes",
         ["SHEET", "FAIL", ..] => "files whose sheet fails",
         _ => "other texts",
+    }
+}
+
+fn kind_of_form_2(text: &str) -> &'static str {
+    match kind(text) {
+        "files refused with 21" => "form 2 files refused with 21",
+        "files refused with 22" => "form 2 files refused with 22",
+        "files refused with 23" => "form 2 files refused with 23",
+        "files refused with 24" => "form 2 files refused with 24",
+        "files whose sheet passes" => "form 2 files whose sheet passes",
+        "files whose sheet fails" => "form 2 files whose sheet fails",
+        _ => "other texts of form 2",
     }
 }

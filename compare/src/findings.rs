@@ -2,9 +2,10 @@
 
 use std::fmt::{UpperHex, Write};
 
-use reference::{Machine, Model, Peripherals};
+use reference::{Machine, Peripherals};
 
 use crate::board::Board;
+use crate::host::SHEET_BYTES;
 
 /// A disagreement.
 #[derive(Debug)]
@@ -68,7 +69,7 @@ pub fn show_rom(rom: &[u16]) -> String {
 
 /// What is printed of a list: as much as a ROM or a sheet can have.
 pub fn shown<T>(list: &[T]) -> &[T] {
-    &list[..list.len().min(Model::Upd17132.rom_words())]
+    &list[..list.len().min(SHEET_BYTES)]
 }
 
 /// A machine as text: eight rows of cells, then registers and timer,

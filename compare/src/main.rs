@@ -17,6 +17,7 @@ mod clock;
 mod codes;
 mod counts;
 mod cycles;
+mod damages;
 mod edge_names;
 mod edges;
 mod entries;
@@ -38,6 +39,10 @@ mod random;
 mod ranges;
 mod records;
 mod roms;
+mod routines;
+mod rules;
+mod shapes;
+mod sheets;
 mod stations;
 mod steps;
 mod tally;
@@ -47,6 +52,8 @@ mod timers;
 mod told;
 mod transfers;
 mod verdicts;
+mod walk;
+mod widening;
 mod words;
 
 // The library of this package, src/host/.

@@ -146,11 +146,11 @@ impl Call<'_> {
 /// The check of a ROM that passes for both models. It is lent no record.
 fn checks(random: &mut Random, number: u8, tally: &mut Tally) -> Result<(), Finding> {
     let words = 1 + random.below(16) as usize;
-    let Passing { rom, depths, .. } = passing(random, Model::Upd17120, words);
-    let answer = host::verify(number, &rom, &depths);
+    let Passing { rom, sheet, .. } = passing(random, Model::Upd17120, words);
+    let answer = host::verify(number, &rom, &sheet);
     let refused = |number| VerdictReply { number, word: 0, rule: 0 };
     let second = Model::of_number(number)
-        .map(|model| reference::verify(model, &rom, &depths))
+        .map(|model| reference::verify(model, &rom, &sheet))
         .map_or_else(refused, pair::verdict_of);
     tally.answer(answer.number);
     tally.see_those(&[(is_none(number), "ROMs that would pass")]);

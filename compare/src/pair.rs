@@ -134,19 +134,19 @@ fn odd_step(rom: &[u16], mut machine: Machine, board: &Board, budget: u32) -> St
 }
 
 /// The check for a model in both.
-pub fn verify(model: Model, rom: &[u16], depths: &[u8]) -> Result<VerdictReply, Finding> {
-    let checked = host::verify(model.number(), rom, depths);
-    let answer = verdict_of(reference::verify(model, rom, depths));
+pub fn verify(model: Model, rom: &[u16], sheet: &[u8]) -> Result<VerdictReply, Finding> {
+    let checked = host::verify(model.number(), rom, sheet);
+    let answer = verdict_of(reference::verify(model, rom, sheet));
     if checked == answer {
         return Ok(checked);
     }
     Err(Finding(format!(
-        "verify for the {model:?}, {} words and {} entries\n{}sheet: {:?}\n\
+        "verify for the {model:?}, {} words and {} bytes\n{}sheet: {:?}\n\
          first difference: proved {}, second {}\n",
         rom.len(),
-        depths.len(),
+        sheet.len(),
         show_rom(rom),
-        shown(depths),
+        shown(sheet),
         named(rom, &checked),
         named(rom, &answer)
     )))

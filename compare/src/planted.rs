@@ -20,8 +20,8 @@ pub fn switch(fault: u64) -> bool {
 fn part_for(fault: u32) -> &'static str {
     match fault {
         12 | 99 => "runs",
-        14 | 24 | 83 | 84 | 111..=114 => "verdicts",
-        25 | 30 | 31 | 49 => "entries",
+        14 | 24 | 83 | 84 | 111..=114 | 116..=133 => "verdicts",
+        25 | 30 | 31 | 49 | 134..=144 => "entries",
         27 | 28 | 32 => "codes",
         29 | 33..=39 | 103..=108 | 110 => "edges",
         40..=48 => "cycles",

@@ -1,9 +1,10 @@
 //! Random ROMs with their sheets that pass the check for a model, of any length.
 
-use reference::verify::NEVER;
 use reference::Model;
 
 use crate::random::Random;
+use crate::routines;
+use crate::sheets::{holds, levels as levels_of, Entry, DEEPEST, NEVER};
 use crate::transfers::{self, Kind};
 use crate::words;
 
@@ -11,132 +12,166 @@ use crate::words;
 pub struct Passing {
     pub model: Model,
     pub rom: Vec<u16>,
-    pub depths: Vec<u8>,
+    /// Two bytes an entry.
+    pub sheet: Vec<u8>,
 }
 
-/// A ROM of so many words: stretches at random levels first, then for each
-/// word an instruction that the stretches allow.
+/// A ROM of so many words: stretches of random entries first, then for each
+/// word an instruction that the stretches allow; or a main loop with routines.
 pub fn passing(random: &mut Random, model: Model, words: usize) -> Passing {
-    let depths = stretches(random, words);
-    let plan = Plan::new(random, model, &depths);
+    let stray = stray(random, model);
+    if words >= routines::LEAST && random.once_in(3) {
+        return routines::passing(random, model, words, stray);
+    }
+    let entries = stretches(random, words);
+    let plan = Plan::new(random, &entries, stray);
     let rom = (0..words).map(|at| plan.word(random, at)).collect();
-    Passing { model, rom, depths }
+    Passing { model, rom, sheet: entries.into_flattened() }
 }
 
-/// The sheet: level 0 first. Of a longest ROM the last words often have
-/// level 0 too, so that the PC can go on from 1,023 to 0.
-fn stretches(random: &mut Random, words: usize) -> Vec<u8> {
-    let mut depths = Vec::with_capacity(words);
-    let mut level = 0;
+/// One word in so many may leave the cells of the 17120; 1 where none need stay
+/// there.
+fn stray(random: &mut Random, model: Model) -> u64 {
+    match model {
+        Model::Upd17132 => 1,
+        Model::Upd17120 => random.pick(&[1, 20, 200, 2_000]),
+    }
+}
+
+/// The sheet: level 0 first. One in three has single levels only. Of a longest
+/// ROM the last words often have level 0 too, so that the PC can go on from
+/// 1,023 to 0.
+fn stretches(random: &mut Random, words: usize) -> Vec<Entry> {
+    let widest = if random.once_in(3) { 0 } else { DEEPEST };
     let longest = random.pick(&[4, 12, 40]);
-    while depths.len() < words {
+    let mut entries = Vec::with_capacity(words);
+    let mut entry = range(random, 0, widest);
+    while entries.len() < words {
         let stretch = 1 + random.below(longest) as usize;
-        let end = words.min(depths.len() + stretch);
-        depths.resize(end, level);
-        level = match random.below(8) {
-            0 => NEVER,
-            1..=2 => 0,
-            3..=4 => (level % NEVER + 1).min(5),
-            _ => random.byte(6),
-        };
+        let end = words.min(entries.len() + stretch);
+        entries.resize(end, entry);
+        entry = another(random, entry, widest);
     }
     if words == 1024 && !random.once_in(4) {
-        depths[1018..].fill(0);
+        entries[1018..].fill([0, 0]);
     }
-    depths
+    entries
+}
+
+/// A range from a lowest level on, often that level alone.
+fn range(random: &mut Random, lowest: u8, widest: u8) -> Entry {
+    let more = if random.once_in(2) { 0 } else { widest.min(DEEPEST - lowest) };
+    [lowest, lowest + random.byte(u64::from(more) + 1)]
+}
+
+/// The entry of the next stretch: often one level higher, or one that holds the
+/// entry before.
+fn another(random: &mut Random, [lowest, highest]: Entry, widest: u8) -> Entry {
+    let lowest_now = match random.below(9) {
+        0 => return NEVER,
+        1..=2 => 0,
+        3..=4 => return [lowest, highest].map(|level| (level % NEVER[0] + 1).min(DEEPEST)),
+        5 if lowest <= DEEPEST && widest > 0 => {
+            let more = random.byte(u64::from(DEEPEST - highest) + 1);
+            return [random.byte(u64::from(lowest) + 1), highest + more];
+        }
+        _ => random.byte(6),
+    };
+    range(random, lowest_now, widest)
 }
 
 /// What the words are chosen by.
-struct Plan<'a> {
-    depths: &'a [u8],
-    /// One word in so many may leave the cells of the 17120; 1 where none need
-    /// stay there.
+struct Plan {
+    /// The levels of each word.
+    levels: Vec<u8>,
     stray: u64,
-    /// The words of each level.
-    places: [Vec<u16>; 6],
-    /// Where RETSK may stand, a bit for each level.
+    /// The words that hold each range, by its set of levels.
+    holders: Vec<Vec<u16>>,
+    /// The levels that RETSK may have.
     skipping: u8,
 }
 
-impl Plan<'_> {
-    fn new<'a>(random: &mut Random, model: Model, depths: &'a [u8]) -> Plan<'a> {
-        let places = std::array::from_fn(|level| {
-            let at_level = (0..depths.len()).filter(|&at| usize::from(depths[at]) == level);
-            at_level.map(|at| at as u16).collect()
-        });
-        let stray = match model {
-            Model::Upd17132 => 1,
-            Model::Upd17120 => random.pick(&[1, 20, 200, 2_000]),
-        };
-        Plan { depths, stray, places, skipping: random.byte(64) & random.byte(64) }
-    }
-
-    /// A word that stays in the cells of the 17120, or one that may not.
-    fn within(&self, random: &mut Random, make: fn(&mut Random) -> u16) -> u16 {
-        loop {
-            let word = make(random);
-            if stays(word) || random.once_in(self.stray) {
-                return word;
+impl Plan {
+    fn new(random: &mut Random, entries: &[Entry], stray: u64) -> Plan {
+        let levels: Vec<u8> = entries.iter().map(|&entry| levels_of(entry)).collect();
+        let mut holders = vec![vec![]; 64];
+        for lowest in 0..=DEEPEST {
+            for highest in lowest..=DEEPEST {
+                let set = levels_of([lowest, highest]);
+                let all = (0..).zip(&levels).filter(|(_, &own)| holds(own, set));
+                holders[usize::from(set)] = all.map(|(at, _)| at).collect();
             }
         }
+        Plan { levels, stray, holders, skipping: random.byte(64) & random.byte(64) }
     }
 
     /// A word for the place `at`. Where nothing chosen fits: back, or BR.
     fn word(&self, random: &mut Random, at: usize) -> u16 {
-        let level = self.depths[at];
-        if level == NEVER {
+        let own = self.levels[at];
+        if own == 0 {
             return words::any(random);
         }
         for _ in 0..6 {
-            if let Some(word) = self.chosen(random, at, level) {
+            if let Some(word) = self.chosen(random, at, own) {
                 return word;
             }
         }
-        if level > 0 && !random.once_in(3) {
-            return self.back(random, level);
+        if !holds(own, 1) && !random.once_in(3) {
+            return self.back(random, own);
         }
-        self.branch(random, level)
+        self.branch(random, own)
     }
 
-    fn chosen(&self, random: &mut Random, at: usize, level: u8) -> Option<u16> {
-        let next = self.follows(at, 1, level);
-        let both = next && self.follows(at, 2, level);
+    fn chosen(&self, random: &mut Random, at: usize, own: u8) -> Option<u16> {
+        let next = self.follows(at, 1, own);
+        let both = next && self.follows(at, 2, own);
+        let table = self.levels.len() == 1024 && !holds(own, 1 << DEEPEST);
         match random.below(44) {
-            0..=17 => next.then(|| self.within(random, words::plain)),
-            18..=25 => both.then(|| self.within(random, words::skip)),
-            26..=33 => self.call(random, next, both, level),
-            34..=35 => (next && self.depths.len() == 1024 && level <= 4).then_some(words::MOVT),
+            0..=17 => next.then(|| within(random, self.stray, words::plain)),
+            18..=25 => both.then(|| within(random, self.stray, words::skip)),
+            26..=33 => self.call(random, next, both, own),
+            34..=35 => (next && table).then_some(words::MOVT),
             36 => next.then(|| words::halt(random)),
-            37 => Some(self.branch(random, level)),
-            38..=41 => next.then(|| self.within(random, transfers::allowed)),
-            _ => (level > 0).then(|| self.back(random, level)),
+            37 => Some(self.branch(random, own)),
+            38..=41 => next.then(|| within(random, self.stray, transfers::allowed)),
+            _ => (!holds(own, 1)).then(|| self.back(random, own)),
         }
     }
 
-    /// Rule 5: the word after next too, where a RETSK may have the level.
-    fn call(&self, random: &mut Random, next: bool, both: bool, level: u8) -> Option<u16> {
-        let called = self.places.get(usize::from(level) + 1)?;
-        let skipping = self.skipping >> (level + 1) & 1 == 1;
-        let fits = next && (both || !skipping) && !called.is_empty();
+    /// Rule 5: the word after next too, where a RETSK may share a depth.
+    fn call(&self, random: &mut Random, next: bool, both: bool, own: u8) -> Option<u16> {
+        let called = self.holders.get(usize::from(own << 1))?;
+        let bound = own << 1 & self.skipping != 0;
+        let fits = next && (both || !bound) && !called.is_empty();
         fits.then(|| words::call(random.pick(called)))
     }
 
-    fn branch(&self, random: &mut Random, level: u8) -> u16 {
-        words::br(random.pick(&self.places[usize::from(level)]))
+    fn branch(&self, random: &mut Random, own: u8) -> u16 {
+        words::br(random.pick(&self.holders[usize::from(own)]))
     }
 
     /// RET, or RETSK where it may stand.
-    fn back(&self, random: &mut Random, level: u8) -> u16 {
-        if self.skipping >> level & 1 == 1 && random.once_in(2) {
+    fn back(&self, random: &mut Random, own: u8) -> u16 {
+        if holds(self.skipping, own) && random.once_in(2) {
             words::RETSK
         } else {
             words::RET
         }
     }
 
-    /// Has the word so many places on this level too?
-    fn follows(&self, at: usize, on: usize, level: u8) -> bool {
-        self.depths.get((at + on) & 0x3FF) == Some(&level)
+    /// Holds the word so many places on these levels too?
+    fn follows(&self, at: usize, on: usize, own: u8) -> bool {
+        self.levels.get((at + on) & 0x3FF).is_some_and(|&levels| holds(levels, own))
+    }
+}
+
+/// A word that stays in the cells of the 17120, or one that may not.
+pub fn within(random: &mut Random, stray: u64, make: fn(&mut Random) -> u16) -> u16 {
+    loop {
+        let word = make(random);
+        if stays(word) || random.once_in(stray) {
+            return word;
+        }
     }
 }
 

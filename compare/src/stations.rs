@@ -1,14 +1,12 @@
 //! Random stations, faults in them, and damage to their files.
 
-use reference::station::write;
-use reference::verify::entry_in_range;
 use reference::{Input, Model, Station};
 
-use crate::pair::Finding;
+use crate::damages;
 use crate::random::Random;
 use crate::records;
-use crate::roms::passing;
-use crate::verdicts;
+use crate::roms::{passing, Passing};
+use crate::sheets::{entries, is_proper, is_single};
 use crate::words;
 
 /// A good station: a ROM that passes, one whose check may fail, one without a
@@ -21,18 +19,10 @@ fn station(random: &mut Random) -> Station {
     };
     let mut case = passing(random, Model::Upd17132, words as usize);
     match random.below(4) {
-        0 => {
-            let mut damaged = case.clone();
-            verdicts::damage(random, &mut damaged);
-            let allowed = damaged.depths.iter().all(|&entry| entry_in_range(entry));
-            let length = damaged.rom.len();
-            if length == damaged.depths.len() && (1..=1024).contains(&length) && allowed {
-                case = damaged;
-            }
-        }
-        1 => case.depths.clear(),
+        0 => case = damaged(random, &case),
+        1 => case.sheet.clear(),
         2 => {
-            case.depths.clear();
+            case.sheet.clear();
             case.rom.iter_mut().for_each(|word| *word = words::any(random));
         }
         _ => {}
@@ -43,17 +33,92 @@ fn station(random: &mut Random) -> Station {
         _ => random.below(80),
     };
     let inputs = (0..inputs).map(|_| records::input(random)).collect();
-    Station { rom: case.rom, depths: case.depths, inputs }
+    Station { rom: case.rom, sheet: case.sheet, inputs }
 }
 
-/// A good station and its file.
-pub fn good_file(random: &mut Random) -> Result<(Station, Vec<u8>), Finding> {
-    let station = station(random);
-    match write(&station) {
-        Ok(file) => Ok((station, file)),
-        Err(refusal) => Err(Finding(format!(
-            "the second emulator refuses a good station with {refusal}\n{station:X?}\n"
-        ))),
+/// A ROM and its sheet damaged so that a file can still have them.
+fn damaged(random: &mut Random, case: &Passing) -> Passing {
+    loop {
+        let mut damaged = case.clone();
+        damages::damage(random, &mut damaged);
+        let allowed = entries(&damaged.sheet).iter().all(|&entry| is_proper(entry));
+        let length = damaged.rom.len();
+        if 2 * length == damaged.sheet.len() && (1..=1024).contains(&length) && allowed {
+            return damaged;
+        }
+    }
+}
+
+/// The form that a station is written in: 1 where every entry is one level.
+pub fn form_of(station: &Station) -> usize {
+    if is_single(&station.sheet) {
+        1
+    } else {
+        2
+    }
+}
+
+/// The file of a station in a form. An entry has as many bytes as the form's
+/// number.
+pub fn file_of(station: &Station, form: usize) -> Vec<u8> {
+    let Station { rom, sheet, inputs } = station;
+    let count = |n: usize| (n as u16).to_be_bytes();
+    let words: Vec<u8> = rom.iter().flat_map(|word| word.to_be_bytes()).collect();
+    let listed = entries(sheet).iter().flat_map(|entry| &entry[..form]);
+    let listed: Vec<u8> = listed.copied().collect();
+    let counts = [form, rom.len(), sheet.len() / 2, inputs.len()].map(count);
+    let [form, words_count, entries_count, inputs_count] = counts;
+    let front = [&form[..], &words_count, &words, &entries_count, &listed].concat();
+    [&front[..], &inputs_count, &flat(inputs)].concat()
+}
+
+/// Input records as the file has them.
+pub fn flat(inputs: &[Input]) -> Vec<u8> {
+    let bytes = |i: &Input| i.pins.into_iter().chain(i.directions).chain([i.release]);
+    inputs.iter().flat_map(bytes).collect()
+}
+
+/// A station, and the form of its file.
+pub struct Filed {
+    pub station: Station,
+    pub form: usize,
+}
+
+impl Filed {
+    /// A good station. Its form is at times 2 where 1 would do.
+    pub fn any(random: &mut Random) -> Filed {
+        let station = station(random);
+        let form = if random.once_in(3) { 2 } else { form_of(&station) };
+        Filed { station, form }
+    }
+
+    pub fn file(&self) -> Vec<u8> {
+        file_of(&self.station, self.form)
+    }
+
+    /// One damage to the file, which may be damaged already.
+    pub fn damage(&self, random: &mut Random, file: &mut Vec<u8>) {
+        let sheet_at = 6 + 2 * self.station.rom.len();
+        let inputs_at = sheet_at + self.form * self.station.sheet.len() / 2 + 2;
+        let at = random.below(file.len() as u64) as usize;
+        match random.below(14) {
+            0..=1 => file.truncate(at),
+            2 => {
+                let most = random.pick(&[1, 20, 60_000]);
+                let more = 1 + random.below(most);
+                file.extend((0..more).map(|_| random.bits() as u8));
+            }
+            3 => change(file, at, |_| random.bits() as u8),
+            4 => change_form(random, file),
+            5 => count(random, file, 2),
+            6 => count(random, file, sheet_at - 2),
+            7 => count(random, file, inputs_at - 2),
+            8 => *file = (0..random.below(64)).map(|_| random.byte(4)).collect(),
+            9 => change(file, at, |byte| byte ^ 0x10),
+            10..=11 => bad_entry(random, file, [sheet_at, inputs_at - 2]),
+            12 => cut_between(random, file, [sheet_at, inputs_at - 2]),
+            _ => bad_entry(random, file, [inputs_at, usize::MAX]),
+        }
     }
 }
 
@@ -63,30 +128,6 @@ pub fn faults(random: &mut Random) -> u8 {
     random.pick(&[0, 1, 2, 2])
 }
 
-/// One damage to a file of this station, which may be damaged already.
-pub fn damage(random: &mut Random, station: &Station, file: &mut Vec<u8>) {
-    let depths_at = 6 + 2 * station.rom.len();
-    let inputs_at = depths_at + station.depths.len() + 2;
-    let at = random.below(file.len() as u64) as usize;
-    match random.below(12) {
-        0..=1 => file.truncate(at),
-        2 => {
-            let most = random.pick(&[1, 20, 60_000]);
-            let more = 1 + random.below(most);
-            file.extend((0..more).map(|_| random.bits() as u8));
-        }
-        3 => change(file, at, |_| random.bits() as u8),
-        4 => change(file, random.below(2) as usize, |byte| byte ^ 1 << random.below(8)),
-        5 => count(random, file, 2),
-        6 => count(random, file, depths_at - 2),
-        7 => count(random, file, inputs_at - 2),
-        8 => *file = (0..random.below(64)).map(|_| random.byte(4)).collect(),
-        9 => change(file, at, |byte| byte ^ 0x10),
-        10 => bad_entry(random, file, depths_at),
-        _ => bad_entry(random, file, inputs_at),
-    }
-}
-
 /// Another byte, where the file has one at this place.
 fn change(file: &mut [u8], at: usize, another: impl FnOnce(u8) -> u8) {
     if let Some(byte) = file.get_mut(at) {
@@ -94,14 +135,36 @@ fn change(file: &mut [u8], at: usize, another: impl FnOnce(u8) -> u8) {
     }
 }
 
-/// A bad entry from `first` on, and often the file ends with it.
-fn bad_entry(random: &mut Random, file: &mut Vec<u8>, first: usize) {
-    let room = file.len().saturating_sub(first) as u64;
-    let at = first + random.below(room) as usize;
-    change(file, at, |_| random.pick(&[6, 14, 16, 2, 255]));
+/// Another form number.
+fn change_form(random: &mut Random, file: &mut [u8]) {
+    let form: u16 = match random.below(3) {
+        0 => 1 << random.below(16),
+        _ => random.pick(&[0, 1, 2, 3, 256, 257, 258]),
+    };
+    for (place, byte) in form.to_be_bytes().into_iter().enumerate() {
+        change(file, place, |_| byte);
+    }
+}
+
+/// A place of the file between two, if there is one.
+fn place(random: &mut Random, file: &[u8], [first, end]: [usize; 2]) -> usize {
+    let room = end.min(file.len()).saturating_sub(first) as u64;
+    first + random.below(room) as usize
+}
+
+/// A bad entry at some place, and often the file ends with it.
+fn bad_entry(random: &mut Random, file: &mut Vec<u8>, places: [usize; 2]) {
+    let at = place(random, file, places);
+    change(file, at, |_| random.pick(&[6, 14, 16, 2, 255, 15, 0, 5]));
     if random.once_in(2) {
         file.truncate(at + 1);
     }
+}
+
+/// The file ends at some place.
+fn cut_between(random: &mut Random, file: &mut Vec<u8>, places: [usize; 2]) {
+    let at = place(random, file, places);
+    file.truncate(at);
 }
 
 /// Another count, where the file has one at this place.
@@ -110,11 +173,12 @@ fn count(random: &mut Random, file: &mut [u8], at: usize) {
         return;
     };
     let old = u16::from_be_bytes([pair[0], pair[1]]);
-    let new = match random.below(5) {
+    let new = match random.below(6) {
         0 => 0,
         1 => old.wrapping_add(1),
         2 => old.wrapping_sub(1),
         3 => random.pick(&[1024, 1025, 4095, 4096, 65_535]),
+        4 => old.wrapping_mul(2),
         _ => random.bits() as u16,
     };
     pair.copy_from_slice(&new.to_be_bytes());
@@ -124,18 +188,22 @@ fn count(random: &mut Random, file: &mut [u8], at: usize) {
 /// of a record after its inputs. Some lengths are good in their low sixteen bits.
 pub fn spoil(random: &mut Random, station: &mut Station) -> bool {
     let long = if random.once_in(16) { 65_536 } else { 0 };
-    match random.below(7) {
+    match random.below(8) {
         0 => station.rom.clear(),
         1 => station.rom.resize(if long > 0 { long + station.rom.len() } else { 1025 }, 0),
-        2 => station.depths.resize(station.depths.len() + long.max(1), 0),
-        3 => {
-            let at = random.below(station.depths.len() as u64) as usize;
-            if let Some(entry) = station.depths.get_mut(at) {
-                *entry = random.pick(&[6, 14, 16, 255]);
+        2 => {
+            let more = random.pick(&[1, 2]).max(long);
+            station.sheet.resize(station.sheet.len() + more, 0);
+        }
+        3 => station.sheet.truncate(random.pick(&[1, station.sheet.len().saturating_sub(1)])),
+        4 => {
+            let at = random.below(station.sheet.len() as u64) as usize;
+            if let Some(half) = station.sheet.get_mut(at) {
+                *half = random.pick(&[6, 14, 15, 16, 255, 0, 5]);
             }
         }
-        4 => station.inputs.resize(long.max(4096), Input::default()),
-        5 => {
+        5 => station.inputs.resize(long.max(4096), Input::default()),
+        6 => {
             let at = random.below(station.inputs.len() as u64) as usize;
             if let Some(input) = station.inputs.get_mut(at) {
                 records::spoil_input(random, input);

@@ -80,6 +80,11 @@ pub const fn call(address: u16) -> u16 {
     CALL << 11 | address
 }
 
+/// Is this word one of the six skips?
+pub fn is_skip(word: u16) -> bool {
+    SKIPS.contains(&(word >> 11))
+}
+
 /// Is this word BR addr?
 pub fn is_br(word: u16) -> bool {
     word >> 11 == BR

@@ -13,6 +13,15 @@ pub use structs::{
     DecodedRow, EncodedRow, LentMachine, OutputReply, ReadReply, RunReply, VerdictReply,
 };
 
+/// Both bytes of a sheet entry whose word is never reached.
+pub const UNREACHED: u8 = 15;
+/// The most that a station file has; buffers of these sizes are never too short.
+pub const WORDS: usize = 1024;
+pub const SHEET_BYTES: usize = 2048;
+pub const INPUT_BYTES: usize = 45_045;
+pub const FILE_BYTES: usize = 49_149;
+pub const TEXT_BYTES: usize = 100_000;
+
 extern "C" {
     fn pollwezen_reset(model: u8, machine: *mut LentMachine) -> u8;
     fn pollwezen_step(
@@ -37,7 +46,7 @@ extern "C" {
         rom: *const u16,
         words: usize,
         sheet: *const u8,
-        entries: usize,
+        sheet_bytes: usize,
     ) -> VerdictReply;
     fn pollwezen_decode(word: u16) -> DecodedRow;
     fn pollwezen_encode(row: u8, first: u8, second: u8, addr: u16) -> EncodedRow;
@@ -55,12 +64,14 @@ extern "C" {
         rom: *const u16,
         words: usize,
         sheet: *const u8,
-        entries: usize,
+        sheet_bytes: usize,
         inputs: *const u8,
         input_bytes: usize,
         out: *mut u8,
         room: usize,
     ) -> OutputReply;
+    fn pollwezen_widen(levels: *const u8, entries: usize, out: *mut u8, room: usize)
+        -> OutputReply;
     fn pollwezen_transcript(
         file: *const u8,
         bytes: usize,
@@ -116,10 +127,11 @@ pub fn run(
     report
 }
 
-/// The proved check.
-pub fn verify(model: u8, rom: &[u16], depths: &[u8]) -> VerdictReply {
+/// The proved check. The sheet has two bytes an entry, its lowest level and its
+/// highest; one of single levels goes through `widen` first.
+pub fn verify(model: u8, rom: &[u16], sheet: &[u8]) -> VerdictReply {
     // SAFETY: both slices give their own length.
-    unsafe { pollwezen_verify(model, rom.as_ptr(), rom.len(), depths.as_ptr(), depths.len()) }
+    unsafe { pollwezen_verify(model, rom.as_ptr(), rom.len(), sheet.as_ptr(), sheet.len()) }
 }
 
 /// The proved decoder.
@@ -134,7 +146,7 @@ pub fn encode(row: u8, first: u8, second: u8, addr: u16) -> EncodedRow {
     unsafe { pollwezen_encode(row, first, second, addr) }
 }
 
-/// The proved reader.
+/// The proved reader, of both forms. The sheet takes two bytes an entry from either.
 pub fn read(file: &[u8], rom: &mut [u16], sheet: &mut [u8], inputs: &mut [u8]) -> ReadReply {
     // SAFETY: each slice gives its own length, and no two overlap.
     unsafe {
@@ -151,7 +163,7 @@ pub fn read(file: &[u8], rom: &mut [u16], sheet: &mut [u8], inputs: &mut [u8]) -
     }
 }
 
-/// The proved writer.
+/// The proved writer, which chooses the form.
 pub fn write(rom: &[u16], sheet: &[u8], inputs: &[u8], out: &mut [u8]) -> OutputReply {
     // SAFETY: as in `read`.
     unsafe {
@@ -166,6 +178,12 @@ pub fn write(rom: &[u16], sheet: &[u8], inputs: &[u8], out: &mut [u8]) -> Output
             out.len(),
         )
     }
+}
+
+/// A sheet of single levels, a byte an entry, as one of ranges.
+pub fn widen(levels: &[u8], out: &mut [u8]) -> OutputReply {
+    // SAFETY: as in `read`.
+    unsafe { pollwezen_widen(levels.as_ptr(), levels.len(), out.as_mut_ptr(), out.len()) }
 }
 
 /// The proved transcript.

@@ -45,7 +45,8 @@ pub struct VerdictReply {
     pub rule: u8,
 }
 
-/// `pollwezen_read_reply`: 0 with how much the reader wrote, or a refusal.
+/// `pollwezen_read_reply`: 0 with how many words, entries of two bytes and records
+/// the reader wrote, or a refusal.
 #[repr(C)]
 #[derive(Clone, Copy, Debug, PartialEq, Eq)]
 pub struct ReadReply {
