@@ -2,13 +2,13 @@
 -- order (22, 23), then room (25), and when refused writes nothing".
 -- Assumes nothing.
 use mathlib.Core.Path.{_≡_}
-use mathlib.Core.Bool.{Bool, true, _&&_, _||_, cond}
+use mathlib.Core.Bool.{Bool, true, _&&_, cond}
 use mathlib.Core.List.{List, [], _∷_, _++_}
 use Prim.Native.Nat.{ℕ, zero, suc, _*_, _/_, _%_, _^_}
 use lib.Dec.{eqb, leb, ltb}
 use lib.ListN.{length}
 use Rattle.station_file.specs.Read.{overlay}
-use Rattle.station_file.specs.Station.{entryByte, Form, form2, Station, recordBytes, inputByte, romCount}
+use Rattle.station_file.specs.Station.{entryByte, Form, form2, Station, recordBytes, inputByte, romCount, sheetCount}
 use Rattle.station_file.specs.Forms.{doubled, inFile, lowestForm}
 
 -- a number in so many bytes, high byte first
@@ -43,7 +43,7 @@ below n xs = everyAt (λ (k : ℕ) (x : ℕ). ltb x n) 0 xs ≡ true
 
 -- an entry for each word, or none at all
 abbrev pub sheetLength : Form → ℕ → ℕ → Bool
-sheetLength form words n = eqb n 0 || eqb n (form .entryBytes * words)
+sheetLength form words n = sheetCount (form .entryBytes * words) n
 
 abbrev pub inputCount : Form → List ℕ → Bool
 inputCount form xs = eqb (length xs % recordBytes) 0 && leb (length xs / recordBytes) (form .mostInputs)

@@ -27,9 +27,7 @@ fn bytes() -> Vec<u8> {
 
 /// The sample with one byte changed.
 fn changed(at: usize, byte: u8) -> Vec<u8> {
-    let mut file = bytes();
-    file[at] = byte;
-    file
+    with_bytes(bytes(), &[(at, byte)])
 }
 
 #[test]
@@ -95,11 +93,7 @@ fn twenty_three_for_an_entry() {
 /// What is wrong further back does not count, however far.
 #[test]
 fn the_first_fault_is_given() {
-    let two = |front: (usize, u8), back: (usize, u8)| {
-        let mut file = changed(back.0, back.1);
-        file[front.0] = front.1;
-        file
-    };
+    let two = |front, back| with_bytes(bytes(), &[back, front]);
     assert_eq!(read(&two((1, 3), (3, 0))), Err(20), "form, then count of words");
     assert_eq!(read(&two((2, 9), (10, 6))), Err(22), "count of words, then entry");
     assert_eq!(read(&two((9, 1), (10, 6))), Err(22), "count of entries, then entry");
@@ -151,16 +145,7 @@ fn twenty_five_for_lent_buffers() {
 
 #[test]
 fn writing_into_a_lent_buffer() {
-    let length = bytes().len();
-    for room in 0..length {
-        let mut out = vec![0xAA; room];
-        assert_eq!(write_into(&sample(), &mut out), Err(25));
-        assert_eq!(out, vec![0xAA; room]);
-    }
-    let mut out = vec![0xAA; length + 3];
-    assert_eq!(write_into(&sample(), &mut out), Ok(length));
-    assert_eq!(out[..length], bytes());
-    assert_eq!(out[length..], [0xAA; 3]);
+    goes_whole_or_not_at_all(&sample(), &bytes());
 }
 
 /// The writer tests its station in file order, then room.

@@ -35,9 +35,7 @@ fn bytes() -> Vec<u8> {
 
 /// The sample's file with one byte changed.
 fn changed(at: usize, byte: u8) -> Vec<u8> {
-    let mut file = bytes();
-    file[at] = byte;
-    file
+    with_bytes(bytes(), &[(at, byte)])
 }
 
 fn is_level(byte: u8) -> bool {
@@ -158,11 +156,7 @@ fn cut_entries() {
 /// Refused by the first fault from the front.
 #[test]
 fn the_first_fault_is_given() {
-    let two = |front: (usize, u8), back: (usize, u8)| {
-        let mut file = changed(back.0, back.1);
-        file[front.0] = front.1;
-        file
-    };
+    let two = |front, back| with_bytes(bytes(), &[back, front]);
     assert_eq!(read(&two((1, 3), (9, 1))), Err(20), "form, then count of entries");
     assert_eq!(read(&two((9, 4), (10, 6))), Err(22), "count of entries, then entry");
     assert_eq!(read(&two((10, 4), (14, 0x10))), Err(23), "entry, then count of inputs");
@@ -208,16 +202,7 @@ fn twenty_five_for_the_sheet() {
 
 #[test]
 fn writing_into_a_lent_buffer() {
-    let length = bytes().len();
-    for room in 0..length {
-        let mut out = vec![0xAA; room];
-        assert_eq!(write_into(&sample(), &mut out), Err(25));
-        assert_eq!(out, vec![0xAA; room]);
-    }
-    let mut out = vec![0xAA; length + 3];
-    assert_eq!(write_into(&sample(), &mut out), Ok(length));
-    assert_eq!(out[..length], bytes());
-    assert_eq!(out[length..], [0xAA; 3]);
+    goes_whole_or_not_at_all(&sample(), &bytes());
 }
 
 /// 22 for a sheet that is neither empty nor two bytes a word, 23 for an entry.

@@ -1,8 +1,9 @@
 //! Small tools for the tests. Those without a model are for the 17132.
 
 use reference::sheet::of_levels;
+use reference::station::write_into;
 use reference::Instruction::{self, *};
-use reference::{encode, Answer, Input, Machine, Model, Peripherals, Report, Verdict};
+use reference::{encode, Answer, Input, Machine, Model, Peripherals, Report, Station, Verdict};
 
 /// Register addresses and flags, short.
 pub const AR3: u8 = Machine::AR3;
@@ -237,4 +238,26 @@ impl Random {
     pub fn pulse(&mut self) -> u8 {
         self.below(2) as u8
     }
+}
+
+/// A file with some bytes changed, each told with its place.
+pub fn with_bytes(mut file: Vec<u8>, changes: &[(usize, u8)]) -> Vec<u8> {
+    for &(at, byte) in changes {
+        file[at] = byte;
+    }
+    file
+}
+
+/// A station's file in lent buffers of each length: whole with what is behind it
+/// left, or refused with 25 and nothing written.
+pub fn goes_whole_or_not_at_all(station: &Station, file: &[u8]) {
+    for room in 0..file.len() {
+        let mut out = vec![0xAA; room];
+        assert_eq!(write_into(station, &mut out), Err(25));
+        assert_eq!(out, vec![0xAA; room]);
+    }
+    let mut out = vec![0xAA; file.len() + 3];
+    assert_eq!(write_into(station, &mut out), Ok(file.len()));
+    assert_eq!(out[..file.len()], *file);
+    assert_eq!(out[file.len()..], [0xAA; 3]);
 }
