@@ -1,4 +1,7 @@
 // Operations on nibbles: document 01, "Results". What a flag or a cell is, the memory knows; here are numbers and bits.
+
+#![tactic(auto)]
+
 ghost use Rattle.std.specs.Prelude.{◌≡◌, cond, ◌<◌};
 ghost use Rattle.alu.specs.Results.{add_of, subtract_of, rotate_of, zero_of, condition_of};
 ghost use Rattle.alu.specs.Decimal.{decimal_sum, decimal_difference};

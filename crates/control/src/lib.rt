@@ -1,5 +1,8 @@
 // What an instruction does to the PC, the stack and the marks: a function of its flow. The control stands in two parts while the
 // machine steps: the stack where it is, and the rest in a small struct.
+
+#![tactic(auto)]
+
 mod stack;
 mod words;
 

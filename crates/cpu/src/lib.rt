@@ -1,4 +1,7 @@
 // The single step and the counted run.
+
+#![tactic(auto)]
+
 mod execution;
 mod running;
 mod stepping;

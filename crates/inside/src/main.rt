@@ -1,4 +1,7 @@
 // Shows what no step does: the data buffer read as a number of 16 bits; and addresses as numbers. All other cases are in cases/.
+
+#![tactic(auto)]
+
 use memory::{Memory, Model};
 
 fn show(name: &[u8], n: u16) {

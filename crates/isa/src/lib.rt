@@ -1,4 +1,7 @@
 // The instruction words of the uPD17132: the instructions of the manual's list (18.3), the decoder and the encoder.
+
+#![tactic(auto)]
+
 mod decoder;
 mod encoder;
 

@@ -1,5 +1,8 @@
 // Where the library puts the fields of the structs of include/pollwezen.h: numbers that tell the fields apart, for
 // tests/layout.c and compare/ to find.
+
+#![tactic(auto)]
+
 ghost use Rattle.std.specs.Prelude.{◌≡◌, ◌≤◌};
 ghost use Rattle.layout.specs.Laid.{filled_decoded_row, filled_encoded_row, filled_input, laid_of, filled_machine, filled_output_reply, filled_read_reply, filled_run_reply, filled_verdict_reply};
 

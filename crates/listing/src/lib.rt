@@ -1,5 +1,8 @@
 // The manual's list of the instruction set (18.3) for C: a word as the row in which it stands and its operands, and back. Rows
 // are numbered from 0 in the list's order; operands stand as in its column "Operand".
+
+#![tactic(auto)]
+
 mod decoder;
 mod encoder;
 mod table;

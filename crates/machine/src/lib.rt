@@ -1,5 +1,8 @@
 // The machine's record and the input record: what they hold, what is in range, and reset; and why a step is refused. Both records
 // are what a host in C holds.
+
+#![tactic(auto)]
+
 pub mod cells;
 pub mod ranges;
 

@@ -1,5 +1,8 @@
 // Data memory: 128 nibbles, eight rows of sixteen. The cells are an array by value, and one at a time is written. The registers
 // that stand in it: effective addresses, WR, AR, IX and the data buffer.
+
+#![tactic(auto)]
+
 mod addressing;
 mod cells;
 mod lamps;

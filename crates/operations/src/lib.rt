@@ -1,5 +1,8 @@
 // What an instruction makes of the cells: first where its operands stand, then its writes, at these addresses; and what it makes of the
 // peripherals.
+
+#![tactic(auto)]
+
 mod arithmetic;
 mod file;
 mod operands;

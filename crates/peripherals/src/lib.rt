@@ -1,5 +1,8 @@
 // The control registers for ports and timer, the modulo register, the counter and its clock divider: document 02, E4. All is
 // total: what a step refuses is told by the caller, from `in_file`, TMC and TMM, and `in_range`.
+
+#![tactic(auto)]
+
 mod clock;
 mod parts;
 mod ports;

@@ -1,6 +1,9 @@
 // The C interface, include/pollwezen.h: all its entries. Records and inputs are plain structs of unsigned integers, and answers
 // are numbers. The entries on a lent record are the forms in place of the step and the run. A slice here is a pointer and a
 // length in C; that the two fit is tested by tests/.
+
+#![tactic(auto)]
+
 mod calls;
 mod replies;
 

@@ -1,4 +1,7 @@
 // The level sheet: what an entry says, and the depths that many entries hold. `most` is the number of levels of the chip's stack.
+
+#![tactic(auto)]
+
 mod depths;
 mod range;
 

@@ -1,4 +1,7 @@
 // Reads one station file from standard input, and writes what it prints to standard output.
+
+#![tactic(auto)]
+
 ghost use Rattle.std.specs.Prelude.{◌≡◌, ◌≤◌, length, take};
 ghost use Rattle.io.specs.Counts.{IsPrefixLen};
 ghost use Rattle.transcript.specs.Transcript.{transcript_of};

@@ -1,4 +1,7 @@
 // The station file: its reader and its writer.
+
+#![tactic(auto)]
+
 ghost use Rattle.std.specs.Prelude.{◌≡◌};
 ghost use Rattle.station_file.specs.Answers.{file_number};
 

@@ -1,4 +1,7 @@
 // A buffer filled from a descriptor, and bytes written to one, up to the end or the first fault.
+
+#![tactic(auto)]
+
 mod answer;
 mod reading;
 mod writing;

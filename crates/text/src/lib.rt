@@ -1,4 +1,7 @@
 // Numbers as hexadecimal text in ASCII, upper case.
+
+#![tactic(auto)]
+
 ghost use Rattle.std.specs.Prelude.{◌≡◌};
 ghost use Rattle.text.specs.Hex.{hex_digit_of, hex_digits_of};
 

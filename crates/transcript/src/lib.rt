@@ -1,4 +1,7 @@
 // The text that the program `station` prints.
+
+#![tactic(auto)]
+
 mod file;
 mod inputs;
 mod line;

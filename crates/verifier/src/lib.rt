@@ -1,4 +1,7 @@
 // The level sheet check. A ROM that passes it with its sheet never runs into a refusal of its own.
+
+#![tactic(auto)]
+
 mod entries;
 mod reading;
 mod rules;
