@@ -13,7 +13,7 @@ use isa::SkipOp;
 mod table;
 
 // A result and CY. The result has four bits, unless it is that of logic on bytes that have more.
-#[derive(Drop)]
+#[derive(Clone, Copy)]
 pub struct Outcome {
     pub result: u8,
     pub carry: bool,

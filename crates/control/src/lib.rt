@@ -17,7 +17,7 @@ use stack::{address_on, clear};
 pub use words::{of_word, reads_table};
 
 // The instructions that go by AR: BR @AR, CALL @AR, PUSH AR and POP AR.
-#[derive(Drop)]
+#[derive(Clone, Copy)]
 pub enum ArOp {
     Br,
     Call,
@@ -26,14 +26,14 @@ pub enum ArOp {
 }
 
 // HALT and STOP.
-#[derive(Drop)]
+#[derive(Clone, Copy)]
 pub enum Rest {
     Halt,
     Stop,
 }
 
 // Where control goes after an instruction, whatever the data.
-#[derive(Drop)]
+#[derive(Clone, Copy)]
 pub enum Flow {
     // To the next word.
     Onward,
@@ -60,7 +60,7 @@ pub fn next(model: Model, pc: u16) -> u16
 }
 
 // The control without its stack.
-#[derive(Drop)]
+#[derive(Clone, Copy)]
 pub struct Regs {
     pub pc: u16,
     pub levels: u8,
@@ -69,7 +69,7 @@ pub struct Regs {
 }
 
 // Where control goes.
-#[derive(Drop)]
+#[derive(Clone, Copy)]
 pub enum Transfer {
     To(Regs),
     Refused(Refusal),

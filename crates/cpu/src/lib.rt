@@ -15,7 +15,7 @@ use peripherals::{Peripherals, Timer};
 pub use running::{end_of, run, run_in_place, step, step_in_place};
 
 // What a step answers.
-#[derive(Drop)]
+#[derive(Clone, Copy)]
 pub enum Answer {
     Done,
     // The machine stays in standby: in STOP nothing has changed, in HALT the timer has moved.
@@ -38,7 +38,7 @@ impl Answer {
 
 // Steps completed, and the instruction cycles that they took.
 #[repr(C)]
-#[derive(Drop)]
+#[derive(Clone, Copy)]
 pub struct Count {
     pub steps: u32,
     pub cycles: u32,
@@ -46,7 +46,7 @@ pub struct Count {
 
 // What steps up to a refusal, standby or the budget leave beside the cells; how many of them were completed, with their cycles; and
 // the last one's answer.
-#[derive(Drop)]
+#[derive(Clone, Copy)]
 pub struct Reached {
     pub peripherals: Peripherals,
     pub control: Control,
@@ -55,7 +55,7 @@ pub struct Reached {
 }
 
 // The machine after a step, what the step counts for, and its answer.
-#[derive(Drop)]
+#[derive(Clone, Copy)]
 pub struct Stepped {
     pub machine: Machine,
     pub count: Count,
@@ -63,7 +63,7 @@ pub struct Stepped {
 }
 
 // How a run ended.
-#[derive(Drop)]
+#[derive(Clone, Copy)]
 pub enum End {
     // At its budget or in standby.
     Completed,
@@ -83,7 +83,7 @@ impl End {
 }
 
 // The machine after a run, the steps that it completed with their cycles, and how it ended.
-#[derive(Drop)]
+#[derive(Clone, Copy)]
 pub struct Ran {
     pub machine: Machine,
     pub count: Count,
@@ -92,7 +92,7 @@ pub struct Ran {
 
 // A step of a machine that does not stay in standby: where control goes, the timer before its cycles and how many these are, or why
 // it is refused.
-#[derive(Drop)]
+#[derive(Clone, Copy)]
 enum Advanced {
     OnTo {
         regs: Regs,
@@ -103,7 +103,7 @@ enum Advanced {
 }
 
 // What a fetch finds.
-#[derive(Drop)]
+#[derive(Clone, Copy)]
 enum Fetched {
     Word(u16),
     Past,

@@ -9,7 +9,7 @@ pub use decoder::decode;
 pub use encoder::encode;
 
 // The operations that have both a form r,m and a form m,#n4.
-#[derive(Drop)]
+#[derive(Clone, Copy)]
 pub enum AluOp {
     Add,
     AddC,
@@ -21,7 +21,7 @@ pub enum AluOp {
 }
 
 // The tests and compares of a cell against an immediate, each of which may skip the next word.
-#[derive(Drop)]
+#[derive(Clone, Copy)]
 pub enum SkipOp {
     Skt,
     Skf,
@@ -32,7 +32,7 @@ pub enum SkipOp {
 }
 
 // The instructions of opcode 7 that have no operand field.
-#[derive(Drop)]
+#[derive(Clone, Copy)]
 pub enum FixedOp {
     IncAr,
     IncIx,
@@ -52,7 +52,7 @@ pub enum FixedOp {
 // All 47 instructions. Operands are named as in the manual's legend (18.2): m is a data memory address, row and column;
 // r the column of a general register; n4 an immediate or a mask of bits; addr a program memory address; rf and p an
 // address in the register file or of a peripheral.
-#[derive(Drop)]
+#[derive(Clone, Copy)]
 pub enum Instruction {
     AluRegister { op: AluOp, r: u8, m: u8 },
     AluImmediate { op: AluOp, m: u8, n4: u8 },
@@ -75,7 +75,7 @@ pub enum Instruction {
 }
 
 // What a word decodes to.
-#[derive(Drop)]
+#[derive(Clone, Copy)]
 pub enum Decoded {
     Instruction(Instruction),
     // The word is no instruction: refusal 3.
@@ -83,7 +83,7 @@ pub enum Decoded {
 }
 
 // What an instruction encodes to.
-#[derive(Drop)]
+#[derive(Clone, Copy)]
 pub enum Encoded {
     Word(u16),
     // An operand is too large for its field: refusal 10, with word 0.

@@ -15,7 +15,7 @@ use pollwezen::{OutputReply, ReadReply, RunReply, VerdictReply};
 
 // Two of each struct, so that the second lies where the first ends.
 #[repr(C)]
-#[derive(Drop)]
+#[derive(Clone, Copy)]
 pub struct Laid {
     pub machines: [Machine; 2],
     pub inputs: [Input; 2],

@@ -13,7 +13,7 @@ pub use encoder::encode;
 // What a word is: number 0 with its row and operands, those that the row lacks 0; or refusal 3 and zeros. A program address
 // stands in `addr`, any other operand in `first` and `second`.
 #[repr(C)]
-#[derive(Drop)]
+#[derive(Clone, Copy)]
 pub struct DecodedRow {
     pub number: u8,
     pub row: u8,
@@ -24,7 +24,7 @@ pub struct DecodedRow {
 
 // The word of a row and its operands with number 0, or a refusal and word 0.
 #[repr(C)]
-#[derive(Drop)]
+#[derive(Clone, Copy)]
 pub struct EncodedRow {
     pub number: u8,
     pub word: u16,

@@ -4,7 +4,7 @@ ghost use Rattle.listing.specs.Table.{fields, fields_in, listing};
 ghost use Rattle.listing.specs.Patterns.{pattern_of, placed_by, join_of};
 
 // Where the operands of a row stand in its words; the other bits are the row's own.
-#[derive(Drop)]
+#[derive(Clone, Copy)]
 pub enum Format {
     // no operand
     Plain,
@@ -21,7 +21,7 @@ pub enum Format {
 }
 
 // The machine code of a row, its operands 0, and the format.
-#[derive(Drop)]
+#[derive(Clone, Copy)]
 pub struct Pattern(pub u16, pub Format);
 
 pub const ROWS: u8 = 47;
@@ -88,7 +88,7 @@ const LISTING: [Pattern; 47] = [
 ];
 
 // The operands of a word, those that its format lacks 0.
-#[derive(Drop)]
+#[derive(Clone, Copy)]
 pub struct Fields {
     pub first: u8,
     pub second: u8,

@@ -15,7 +15,7 @@ use peripherals::Peripherals;
 
 // Document 01's input record: the pins and directions of P0A to P0E, and the release bit.
 #[repr(C)]
-#[derive(Drop)]
+#[derive(Clone, Copy)]
 pub struct Input {
     pub pins: [u8; 5],
     pub directions: [u8; 5],
@@ -25,7 +25,7 @@ pub struct Input {
 // PC, stack and marks. The skip mark, which document 01 calls skip pending, is 0 or 1; the standby mark, which it calls standing,
 // is 0, or 1 in HALT and 2 in STOP.
 #[repr(C)]
-#[derive(Drop)]
+#[derive(Clone, Copy)]
 pub struct Control {
     pub pc: u16,
     pub stack: [u16; 5],
@@ -37,7 +37,7 @@ pub struct Control {
 
 // The machine's record.
 #[repr(C)]
-#[derive(Drop)]
+#[derive(Clone, Copy)]
 pub struct Machine {
     pub memory: Memory,
     pub peripherals: Peripherals,
@@ -45,7 +45,7 @@ pub struct Machine {
 }
 
 // Why a step is refused: refusals 1 to 8, in their order, with 30 after 4 and 31 after 8.
-#[derive(Drop)]
+#[derive(Clone, Copy)]
 pub enum Refusal {
     OutOfRange,
     PastRom,

@@ -23,14 +23,14 @@ pub use registers::{
 };
 
 // A chip that a board may have.
-#[derive(Drop)]
+#[derive(Clone, Copy)]
 pub enum Model {
     Upd17132,
     Upd17120,
 }
 
 #[repr(C)]
-#[derive(Drop)]
+#[derive(Clone, Copy)]
 pub struct Memory {
     pub cells: [u8; 128],
 }

@@ -17,7 +17,7 @@ pub use written::writes;
 
 // The effective addresses of an instruction's operands: the cell that the result goes to, the cell that it is taken from, and the
 // register that gives @r its column. 128, which no cell has, where there is none.
-#[derive(Drop)]
+#[derive(Clone, Copy)]
 pub struct Addresses {
     pub to: u8,
     pub from: u8,

@@ -19,7 +19,7 @@ pub use ranges::in_range;
 pub use registers::{in_file, peek, poke};
 
 #[repr(C)]
-#[derive(Drop)]
+#[derive(Clone, Copy)]
 pub struct Peripherals {
     // 11H, 12H, 24H, 32H, 33H, 34H and 35H of the register file.
     pub registers: [u8; 7],
@@ -30,7 +30,7 @@ pub struct Peripherals {
 }
 
 // The peripherals without their registers, which stand apart while the machine steps.
-#[derive(Drop)]
+#[derive(Clone, Copy)]
 pub struct Timer {
     pub modulo: u8,
     pub counter: u8,

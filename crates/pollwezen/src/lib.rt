@@ -29,7 +29,7 @@ use peripherals::Peripherals;
 
 // A run's steps with their cycles, and its refusal or 0.
 #[repr(C)]
-#[derive(Drop)]
+#[derive(Clone, Copy)]
 pub struct RunReply {
     pub count: Count,
     pub number: u8,
@@ -38,7 +38,7 @@ pub struct RunReply {
 // What the check answers: 0 for a sheet that passes, else the refusal, or 254 with the lowest word that breaks a rule and
 // its lowest rule.
 #[repr(C)]
-#[derive(Drop)]
+#[derive(Clone, Copy)]
 pub struct VerdictReply {
     pub number: u8,
     pub word: u16,
@@ -47,7 +47,7 @@ pub struct VerdictReply {
 
 // What the reader answers: 0 and how much it wrote to each lent buffer, or the refusal.
 #[repr(C)]
-#[derive(Drop)]
+#[derive(Clone, Copy)]
 pub struct ReadReply {
     pub number: u8,
     pub words: usize,
@@ -57,35 +57,35 @@ pub struct ReadReply {
 
 // What the writer, the widening and the transcript answer: 0 and how many bytes they wrote, or the refusal.
 #[repr(C)]
-#[derive(Drop)]
+#[derive(Clone, Copy)]
 pub struct OutputReply {
     pub number: u8,
     pub length: usize,
 }
 
 // The model with a number, if it is one.
-#[derive(Drop)]
+#[derive(Clone, Copy)]
 enum Selected {
     Model(Model),
     NoModel,
 }
 
 // What reset or a step leaves in the lent record, and its number.
-#[derive(Drop)]
+#[derive(Clone, Copy)]
 struct LentStep {
     machine: Machine,
     number: u8,
 }
 
 // What a run leaves in the lent record, and its reply.
-#[derive(Drop)]
+#[derive(Clone, Copy)]
 struct LentRun {
     machine: Machine,
     reply: RunReply,
 }
 
 // What a step leaves beside the cells, and its number.
-#[derive(Drop)]
+#[derive(Clone, Copy)]
 struct StepLeft {
     peripherals: Peripherals,
     control: Control,
@@ -93,7 +93,7 @@ struct StepLeft {
 }
 
 // What a run leaves beside the cells, and its reply.
-#[derive(Drop)]
+#[derive(Clone, Copy)]
 struct RunLeft {
     peripherals: Peripherals,
     control: Control,

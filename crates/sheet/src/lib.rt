@@ -14,7 +14,7 @@ pub use range::{
 pub const UNREACHED: u8 = 15;
 
 // The lowest and the highest number of open calls at a word; 15 and 15 where it is never reached.
-#[derive(Drop)]
+#[derive(Clone, Copy)]
 pub struct Entry {
     pub lowest: u8,
     pub highest: u8,

@@ -19,7 +19,7 @@ pub use reader::read;
 pub use writer::write;
 
 // Why a file or a station is refused: refusals 20 to 25, in their order.
-#[derive(Drop)]
+#[derive(Clone, Copy)]
 pub enum FileRefusal {
     Form,
     Early,
@@ -45,7 +45,7 @@ impl FileRefusal {
 }
 
 // What the reader answers: how much it wrote to each buffer, or why nothing.
-#[derive(Drop)]
+#[derive(Clone, Copy)]
 pub enum Loaded {
     Station {
         words: usize,
@@ -56,14 +56,14 @@ pub enum Loaded {
 }
 
 // What the writer answers: how many bytes it wrote, or why none.
-#[derive(Drop)]
+#[derive(Clone, Copy)]
 pub enum Written {
     Bytes(usize),
     Refused(FileRefusal),
 }
 
 // What differs between the forms of the file that have two-byte counts.
-#[derive(Drop)]
+#[derive(Clone, Copy)]
 struct Form {
     number: usize,
     // Two bytes an entry, and not one.
@@ -72,35 +72,35 @@ struct Form {
 }
 
 // A number of two bytes and the place after it, or the file's end.
-#[derive(Drop)]
+#[derive(Clone, Copy)]
 enum Number {
     Is(usize, usize),
     Early,
 }
 
 // The place after the form number.
-#[derive(Drop)]
+#[derive(Clone, Copy)]
 enum Opening {
     At(usize),
     Refused(FileRefusal),
 }
 
 // Whether a test passes.
-#[derive(Drop)]
+#[derive(Clone, Copy)]
 enum Test {
     Passed,
     Refused(FileRefusal),
 }
 
 // A section's count, the place of its first element and the place after its last.
-#[derive(Drop)]
+#[derive(Clone, Copy)]
 enum Section {
     Good(usize, usize, usize),
     Refused(FileRefusal),
 }
 
 // The count and the start of each section of a good file.
-#[derive(Drop)]
+#[derive(Clone, Copy)]
 enum Layout {
     Station {
         words: usize,

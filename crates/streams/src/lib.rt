@@ -11,7 +11,7 @@ pub use reading::{file_buffer, read_all};
 pub use writing::write_all;
 
 // What an answer of `read` or of `write` means, each with the place up to which the bytes are then moved.
-#[derive(Drop)]
+#[derive(Clone, Copy)]
 pub enum Meaning {
     // Some moved, and more can.
     Further(usize),
@@ -23,7 +23,7 @@ pub enum Meaning {
 }
 
 // How many bytes an input has, as far as there is room.
-#[derive(Drop)]
+#[derive(Clone, Copy)]
 pub enum Received {
     Bytes(usize),
     Failed,

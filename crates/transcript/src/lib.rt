@@ -14,7 +14,7 @@ pub use file::transcript;
 use machine::Machine;
 
 // What `transcript` answers.
-#[derive(Drop)]
+#[derive(Clone, Copy)]
 pub enum Printed {
     // The text's length.
     Text(usize),
@@ -24,7 +24,7 @@ pub enum Printed {
 
 // How far the records have come: the machine, the steps completed with their cycles, the refusal or 0, and where the text
 // goes on.
-#[derive(Drop)]
+#[derive(Clone, Copy)]
 struct Progress {
     machine: Machine,
     count: Count,

@@ -13,7 +13,7 @@ ghost use Rattle.verifier.specs.Verdict.{answer_of, verdict_number};
 pub use verification::verify;
 
 // What the check answers.
-#[derive(Drop)]
+#[derive(Clone, Copy)]
 pub enum Verdict {
     Pass,
     // The lowest word that breaks a clearance rule, and its lowest rule.

@@ -1,0 +1,5 @@
+use Rattle.std.proofs.Common.{rules}
+use Rattle.memory.proofs.registers.increment_ar.Goals as goal
+
+pub returns : goal.returns
+returns c = rw (c.write_ar.ensures, c.next_ar-v.ensures, c.ar.ensures)

@@ -1,0 +1,25 @@
+use Rattle.std.proofs.Common.{◌≡◌, ◌-◌, ◌≤◌, true, refl, arith, rules}
+use Rattle.laws.specs.Every.{every}
+use Rattle.peripherals.specs.Range.{register_in_range}
+use Rattle.peripherals.proofs.Tests.{one_more, one_fails, out, rest}
+use Rattle.peripherals.proofs.ranges.in_range.Goals as goal
+
+pub loop-at-init : goal.loop-at-init
+loop-at-init c = (omega arith, refl)
+
+pub returns-then-held-mask : goal.returns-then-held-mask
+returns-then-held-mask c =
+    let p = c.args.p in
+    out p (one_fails p.registers _ (rw c.mask.ensures at c.if-held-mask.true) (omega arith))
+
+pub loop-at-preserved : goal.loop-at-preserved
+loop-at-preserved c =
+    let l = c.loop-at in
+    (omega arith, one_more c.args.p.registers l.at (rw c.mask.ensures at c.if-held-mask.false) l.invariant.1)
+
+pub returns : goal.returns
+returns c =
+    let p = c.args.p in
+    let l = c.loop-at in
+    let e : l.at ≡ 7 = omega arith in
+    rest p (rw e at l.invariant.1) (search rules) (search rules)

@@ -1,0 +1,12 @@
+use Rattle.std.proofs.Common.{◌≡◌, ◌-◌, ◌≤◌, length, sym, refl, ◌∙◌, add-one, rules}
+use borrow.Author.Tests.{not-true, not-false}
+use Rattle.laws.proofs.Lists.{slice_index_inside}
+use Rattle.sheet.specs.Depths.{nearest_below, with_depths}
+-- the depths that were passed are those of one entry more
+use Rattle.sheet.proofs.depths.with_depths.Given as goal
+
+abbrev pub invariant-loop-depth : goal.invariant-loop-depth
+invariant-loop-depth l = (l.depth ≤ 6) × (l.more ≡ nearest_below l.entry l.depth l.table)
+
+abbrev pub decreases-loop-depth : goal.decreases-loop-depth
+decreases-loop-depth l = 6 - l.depth

@@ -1,0 +1,20 @@
+use Rattle.std.proofs.Common.{sym, ◌∙◌, rules, le-leb}
+use borrow.Author.Tests.{not-true, not-false, lt-leb}
+use Rattle.sheet.specs.Entry.{covers}
+use Rattle.sheet.proofs.range.has_all_of.Goals as goal
+
+pub returns-then-not-is_reached : goal.returns-then-not-is_reached
+unfolding covers
+returns-then-not-is_reached c = simp (sym c.is_reached.ensures ∙ not-true _ c.if-not-is_reached.true-raw)
+
+pub returns-then-other-entry : goal.returns-then-other-entry
+unfolding covers
+returns-then-other-entry c =
+    let r = c in
+    simp (sym r.is_reached.ensures ∙ not-false _ r.if-not-is_reached.false-raw, lt-leb _ _ c.if-other-entry.true)
+
+pub returns : goal.returns
+unfolding covers
+returns c =
+    let r = c in
+    simp (sym r.is_reached.ensures ∙ not-false _ r.if-not-is_reached.false-raw, le-leb _ _ c.if-other-entry.false)
