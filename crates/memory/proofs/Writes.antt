@@ -39,7 +39,7 @@ module _ (chip : Chip) where
   abbrev fits : ℕ → ℕ → Bool
   fits at v = eqb (kept_of chip at v) v
 
-  ranged_once : (cells : List ℕ) (at v : ℕ) → cells_in_range chip cells ≡ true → cells_in_range chip (write_of chip cells at v) ≡ true
+  pub ranged_once : (cells : List ℕ) (at v : ℕ) → cells_in_range chip cells ≡ true → cells_in_range chip (write_of chip cells at v) ≡ true
   unfolding cells_in_range write_of
   ranged_once cells at v r = every_stored fits cells at (kept_of chip at v) (passed (eq-eqb _ _ (kept_kept at v))) 128 r
 

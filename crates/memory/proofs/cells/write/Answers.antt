@@ -1,8 +1,9 @@
-use Rattle.std.proofs.Common.{◌≡◌, ℕ, ◌+◌, ◌-◌, ◌%◌, ◌≤◌, length, ◌∙◌, ⊎_elim, arith, length-set, rules}
+use Rattle.std.proofs.Common.{◌≡◌, ℕ, ◌+◌, ◌-◌, ◌%◌, ◌≤◌, length, ◌∙◌, arith, length-set, rules}
 use lib.Bits.{bit_and}
 use Rattle.memory.specs.Write.{write_of, kept_of}
 use Rattle.memory.proofs.Passing.{passed, at_first, here, elsewhere, at_last}
 use Rattle.memory.proofs.cells.write.Goals as goal
+use Rattle.memory.proofs.cells.write.Goals.{then-left-eq0, else-left-eq0}
 
 pub loop-i-init : goal.loop-i-init
 loop-i-init c = (omega arith, omega arith, search rules, at_first _ c.args.at (bit_and c.args.v c.mask.result))
@@ -15,10 +16,10 @@ loop-i-preserved c =
       omega arith,
       omega (arith, c.wrapping_sub_u8-left.ensures.value, l.invariant.1),
       rw length-set l.invariant.2,
-      ⊎_elim
-          (λ w. rw (w.1, l.invariant.3) (here a.cells a.at kept l.i (omega (arith, w.0.taken, l.invariant.1))))
-          (λ w. rw (w.1, l.invariant.3) (elsewhere a.cells a.at kept l.i (λ (e : l.i ≡ a.at). omega (arith, w.0.left, l.invariant.1, e))))
-          c.if-left-eq0.branch,
+      elim c.if-left-eq0.branch [
+        | then-left-eq0 w ↦ rw (w.next-is, l.invariant.3) (here a.cells a.at kept l.i (omega (arith, w.if-left-eq0.true, l.invariant.1)))
+        | else-left-eq0 w ↦ rw (w.next-is, l.invariant.3) (elsewhere a.cells a.at kept l.i (λ (e : l.i ≡ a.at). omega (arith, w.if-left-eq0.false, l.invariant.1, e)))
+      ],
     )
 
 pub returns : goal.returns
