@@ -1,0 +1,5 @@
+use borrow.Author.Rules.{rules}
+use Rattle.machine.proofs.Machine.reset.Goals as goal
+
+pub returns : goal.returns
+returns c = rw (c.reset.ensures, c.reset-2.ensures)

@@ -1,0 +1,7 @@
+use Rattle.memory.specs.Write.{kept_of}
+use borrow.Author.Rules.{rules}
+use Rattle.machine.proofs.cells.stays.Goals as goal
+
+pub returns : goal.returns
+unfolding kept_of
+returns c = rw c.mask.ensures
