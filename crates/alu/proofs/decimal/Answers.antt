@@ -8,6 +8,6 @@ returns c =
     let row = c.args.row in
     let below = c.requires in
     elim c.if-subtracts.branch [
-      | then-subtracts w ↦ rw (w.if-subtracts.true, w.printed-is ∙ w.difference.ensures) (difference_rule row below)
-      | else-subtracts w ↦ rw (w.if-subtracts.false, w.printed-is ∙ w.sum.ensures) (sum_rule row below)
+      | then-subtracts w ↦ rw (w.if-subtracts.true, w.printed-is ∙ w.difference-printed.ensures) (difference_rule row below)
+      | else-subtracts w ↦ rw (w.if-subtracts.false, w.printed-is ∙ w.sum-printed.ensures) (sum_rule row below)
     ]
