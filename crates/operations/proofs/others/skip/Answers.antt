@@ -1,0 +1,5 @@
+use borrow.Author.Rules.{rules}
+use Rattle.operations.proofs.others.skip.Goals as goal
+
+pub returns : goal.returns
+returns c = (c.clear_cmp.ensures, rw (c.skips.ensures, c.read-x.ensures))
