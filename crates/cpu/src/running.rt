@@ -58,8 +58,8 @@ fn go(
     pulse: u8,
     budget: u32,
 ) -> Reached
-    ensures control_after { ended result.count (refusal_of (reply_of result.answer)) (machine_of cells.new result.peripherals result.control) ≡ run_of (chip_of model) rom.now (signals input pulse) budget (machine_of cells.old peripherals control) }
-    ensures result_after { budget ≡ 1 → reached_step cells.new result ≡ step_of (chip_of model) rom.now (signals input pulse) (machine_of cells.old peripherals control) }
+    ensures ran { ended result.count (refusal_of (reply_of result.answer)) (machine_of cells.new result.peripherals result.control) ≡ run_of (chip_of model) rom.now (signals input pulse) budget (machine_of cells.old peripherals control) }
+    ensures stepped { budget ≡ 1 → reached_step cells.new result ≡ step_of (chip_of model) rom.now (signals input pulse) (machine_of cells.old peripherals control) }
 {
     if 65535 < budget {
         return so_far(
@@ -186,8 +186,8 @@ pub fn run_in_place(
 
 // One step: the run of one, with its answer.
 pub fn step(model: Model, rom: &[u16], machine: Machine, input: Input, pulse: u8) -> Stepped
-    ensures result_value { step_of_stepped result ≡ step_of (chip_of model) rom.now (signals input pulse) machine }
-    ensures count_value { result.count ≡ step_cost (chip_of model) rom.now (signals input pulse) machine }
+    ensures stepped { step_of_stepped result ≡ step_of (chip_of model) rom.now (signals input pulse) machine }
+    ensures cost { result.count ≡ step_cost (chip_of model) rom.now (signals input pulse) machine }
 {
     let memory = machine.memory;
     let mut cells = memory.cells;
@@ -220,8 +220,8 @@ pub fn step_in_place(
     input: Input,
     pulse: u8,
 ) -> Reached
-    ensures result_after { reached_step cells.new result ≡ step_of (chip_of model) rom.now (signals input pulse) (machine_of cells.old peripherals control) }
-    ensures count_value { result.count ≡ step_cost (chip_of model) rom.now (signals input pulse) (machine_of cells.old peripherals control) }
+    ensures stepped { reached_step cells.new result ≡ step_of (chip_of model) rom.now (signals input pulse) (machine_of cells.old peripherals control) }
+    ensures cost { result.count ≡ step_cost (chip_of model) rom.now (signals input pulse) (machine_of cells.old peripherals control) }
 {
     go(model, rom, cells, peripherals, control, input, pulse, 1)
 }

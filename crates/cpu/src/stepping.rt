@@ -75,9 +75,9 @@ pub(crate) fn advance(
     registers: &mut [u8; 7],
     timer: Timer,
 ) -> Advanced
-    ensures by_index { (directions : List ℕ) (release pulse : ℕ) → (is_marked regs.standby && eqb release 0) ≡ false → advanced_of pulse cells.new stack.new registers.new timer regs result ≡ advance_of (chip_of model) rom.now (signals_at pins.now directions release pulse) (whole_of cells.old stack.old (with_timer registers.old timer) regs) }
-    ensures takes_cycles { TakesCycles (cycles_of (get_or rom.now regs.pc 0) regs.skip) result }
-    ensures by_index_2 { (pulse : ℕ) → Quiet (with_timer registers.old timer) pulse timer.quiet → StaysQuiet registers.new pulse result }
+    ensures advanced { (directions : List ℕ) (release pulse : ℕ) → (is_marked regs.standby && eqb release 0) ≡ false → advanced_of pulse cells.new stack.new registers.new timer regs result ≡ advance_of (chip_of model) rom.now (signals_at pins.now directions release pulse) (whole_of cells.old stack.old (with_timer registers.old timer) regs) }
+    ensures cost { TakesCycles (cycles_of (get_or rom.now regs.pc 0) regs.skip) result }
+    ensures quiet { (pulse : ℕ) → Quiet (with_timer registers.old timer) pulse timer.quiet → StaysQuiet registers.new pulse result }
 {
     let Fetched::Word(word) = fetch(rom, regs.pc) else {
         return Advanced::Stopped(Refusal::PastRom);

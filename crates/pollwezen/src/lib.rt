@@ -167,9 +167,9 @@ pub extern "C" fn pollwezen_run(
 // The check of a ROM and its sheet, two bytes a word, for a model. The last promise is demand 3 on that model, of these entries too.
 #[unsafe(no_mangle)]
 pub extern "C" fn pollwezen_verify(model: u8, rom: &[u16], sheet: &[u8]) -> VerdictReply
-    ensures value { result ≡ verdict_reply_of (verify_on (model_of model) rom.now sheet.now) }
-    ensures variant { (result.number ≡ 0) ↔ ClearOn (model_of model) rom.now sheet.now }
-    ensures safe_on { result.number ≡ 0 → SafeOn (model_of model) rom.now sheet.now }
+    ensures verdict { result ≡ verdict_reply_of (verify_on (model_of model) rom.now sheet.now) }
+    ensures clear { (result.number ≡ 0) ↔ ClearOn (model_of model) rom.now sheet.now }
+    ensures safe { result.number ≡ 0 → SafeOn (model_of model) rom.now sheet.now }
 {
     let Selected::Model(known) = selected(model) else {
         return replies::of_no_model();
@@ -201,8 +201,8 @@ pub extern "C" fn pollwezen_read(
     sheet: &mut [u8],
     inputs: &mut [u8],
 ) -> ReadReply
-    ensures value { result ≡ read_reply_of (read_of file.now (buffers_of rom.old sheet.old inputs.old)).reply }
-    ensures inputs_after { buffers_of rom.new sheet.new inputs.new
+    ensures reply { result ≡ read_reply_of (read_of file.now (buffers_of rom.old sheet.old inputs.old)).reply }
+    ensures buffers { buffers_of rom.new sheet.new inputs.new
         ≡ (read_of file.now (buffers_of rom.old sheet.old inputs.old)).buffers }
 {
     replies::of_loaded(station_file::read(file, rom, sheet, inputs))
@@ -216,8 +216,8 @@ pub extern "C" fn pollwezen_write(
     inputs: &[u8],
     out: &mut [u8],
 ) -> OutputReply
-    ensures value { result ≡ write_reply_of (write_of (station_of rom.now sheet.now inputs.now) out.old).reply }
-    ensures out_after { out.new ≡ (write_of (station_of rom.now sheet.now inputs.now) out.old).out }
+    ensures reply { result ≡ write_reply_of (write_of (station_of rom.now sheet.now inputs.now) out.old).reply }
+    ensures written { out.new ≡ (write_of (station_of rom.now sheet.now inputs.now) out.old).out }
 {
     replies::of_written(station_file::write(rom, sheet, inputs, out))
 }
@@ -225,8 +225,8 @@ pub extern "C" fn pollwezen_write(
 // Makes a sheet of single levels into one of ranges, at the front of the lent buffer. One that is too short stays as it is.
 #[unsafe(no_mangle)]
 pub extern "C" fn pollwezen_widen(levels: &[u8], out: &mut [u8]) -> OutputReply
-    ensures value { result ≡ write_reply_of (widen_of levels.now out.old).reply }
-    ensures out_after { out.new ≡ (widen_of levels.now out.old).out }
+    ensures reply { result ≡ write_reply_of (widen_of levels.now out.old).reply }
+    ensures written { out.new ≡ (widen_of levels.now out.old).out }
 {
     replies::of_written(station_file::widen(levels, out))
 }
@@ -235,9 +235,9 @@ pub extern "C" fn pollwezen_widen(levels: &[u8], out: &mut [u8]) -> OutputReply
 // 100,000 bytes never is.
 #[unsafe(no_mangle)]
 pub extern "C" fn pollwezen_transcript(file: &[u8], out: &mut [u8]) -> OutputReply
-    ensures value { result ≡ print_reply_of (print_of file.now out.old).reply }
-    ensures out_after { out.new ≡ (print_of file.now out.old).out }
-    ensures file_len_bound { length (transcript_of file.now) ≤ 100000 }
+    ensures reply { result ≡ print_reply_of (print_of file.now out.old).reply }
+    ensures written { out.new ≡ (print_of file.now out.old).out }
+    ensures never_longer { length (transcript_of file.now) ≤ 100000 }
 {
     replies::of_printed(transcript::transcript(file, out))
 }

@@ -42,8 +42,8 @@ fn proper_entry(form: Form, before: u8, index: usize, byte: u8) -> bool
 // So many bytes of a sheet.
 pub(crate) fn entries(bytes: &[u8], at: usize, count: usize, form: Form) -> Test
     requires { at ≤ length bytes.now }
-    ensures result_value { scanned bytes.now at count result ≡ fields (entry_field (form_of form) (drop at bytes.now)) 0 count (drop at bytes.now) }
-    ensures scan_fits { ScanFits bytes.now at count result }
+    ensures scanned { scanned bytes.now at count result ≡ fields (entry_field (form_of form) (drop at bytes.now)) 0 count (drop at bytes.now) }
+    ensures fits { ScanFits bytes.now at count result }
 {
     let mut index = 0;
     let mut next = at;
@@ -101,8 +101,8 @@ fn good_records(bytes: &[u8], at: usize, count: usize) -> usize
 // The good records first, then byte by byte from the first that is not.
 pub(crate) fn inputs(bytes: &[u8], at: usize, count: usize) -> Test
     requires { at ≤ length bytes.now }
-    ensures result_value { scanned bytes.now at count result ≡ fields input_field 0 count (drop at bytes.now) }
-    ensures scan_fits { ScanFits bytes.now at count result }
+    ensures scanned { scanned bytes.now at count result ≡ fields input_field 0 count (drop at bytes.now) }
+    ensures fits { ScanFits bytes.now at count result }
 {
     let mut index = good_records(bytes, at, count);
     let mut next = at + index;

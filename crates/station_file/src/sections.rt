@@ -9,8 +9,8 @@ use crate::two_bytes::read_number;
 use crate::{FileRefusal, Form, Layout, Number, Opening, Section, Test, scan};
 
 fn form_section(file: &[u8], form: Form) -> Opening
-    ensures result_value { opened form file.now result ≡ form_section (form_of form) file.now }
-    ensures opening_fits { OpeningFits file.now result }
+    ensures parsed { opened form file.now result ≡ form_section (form_of form) file.now }
+    ensures fits { OpeningFits file.now result }
 {
     let Number::Is(value, next) = read_number(file, 0) else {
         return Opening::Refused(FileRefusal::Early);
@@ -23,8 +23,8 @@ fn form_section(file: &[u8], form: Form) -> Opening
 
 fn rom_section(file: &[u8], at: usize) -> Section
     requires { at ≤ length file.now }
-    ensures result_value { words_in file.now result ≡ rom_section (drop at file.now) }
-    ensures section_fits { SectionFits 2 file.now result }
+    ensures parsed { words_in file.now result ≡ rom_section (drop at file.now) }
+    ensures fits { SectionFits 2 file.now result }
 {
     let Number::Is(count, start) = read_number(file, at) else {
         return Section::Refused(FileRefusal::Early);
@@ -40,8 +40,8 @@ fn rom_section(file: &[u8], at: usize) -> Section
 
 fn sheet_section(file: &[u8], at: usize, words: usize, form: Form) -> Section
     requires { at ≤ length file.now }
-    ensures result_value { bytes_in (form_of form).entry_bytes file.now result ≡ sheet_section (form_of form) words (drop at file.now) }
-    ensures section_fits { SectionFits (form_of form).entry_bytes file.now result }
+    ensures parsed { bytes_in (form_of form).entry_bytes file.now result ≡ sheet_section (form_of form) words (drop at file.now) }
+    ensures fits { SectionFits (form_of form).entry_bytes file.now result }
 {
     let Number::Is(count, start) = read_number(file, at) else {
         return Section::Refused(FileRefusal::Early);
@@ -58,8 +58,8 @@ fn sheet_section(file: &[u8], at: usize, words: usize, form: Form) -> Section
 
 fn input_section(file: &[u8], at: usize, form: Form) -> Section
     requires { at ≤ length file.now }
-    ensures result_value { bytes_in 11 file.now result ≡ input_section (form_of form) (drop at file.now) }
-    ensures section_fits { SectionFits 11 file.now result }
+    ensures parsed { bytes_in 11 file.now result ≡ input_section (form_of form) (drop at file.now) }
+    ensures fits { SectionFits 11 file.now result }
 {
     let Number::Is(count, start) = read_number(file, at) else {
         return Section::Refused(FileRefusal::Early);
@@ -84,8 +84,8 @@ fn section_refusal(section: Section) -> FileRefusal
 
 fn after_form(file: &[u8], at: usize, form: Form) -> Layout
     requires { at ≤ length file.now }
-    ensures result_value { station_in file.now (form_of form).entry_bytes result ≡ after_form (form_of form) (drop at file.now) }
-    ensures layout_fits { LayoutFits file.now (form_of form).entry_bytes result }
+    ensures parsed { station_in file.now (form_of form).entry_bytes result ≡ after_form (form_of form) (drop at file.now) }
+    ensures fits { LayoutFits file.now (form_of form).entry_bytes result }
 {
     let rom = rom_section(file, at);
     let Section::Good(words, rom_at, sheet_from) = rom else {
@@ -114,8 +114,8 @@ fn after_form(file: &[u8], at: usize, form: Form) -> Layout
 
 // Where each section of a file lies, or the file's first refusal.
 pub(crate) fn parse(file: &[u8], form: Form) -> Layout
-    ensures result_value { station_in file.now (form_of form).entry_bytes result ≡ parse_of (form_of form) file.now }
-    ensures layout_fits { LayoutFits file.now (form_of form).entry_bytes result }
+    ensures parsed { station_in file.now (form_of form).entry_bytes result ≡ parse_of (form_of form) file.now }
+    ensures fits { LayoutFits file.now (form_of form).entry_bytes result }
 {
     match form_section(file, form) {
         Opening::Refused(refusal) => Layout::Refused(refusal),

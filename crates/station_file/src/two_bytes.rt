@@ -14,8 +14,8 @@ pub(crate) fn word(high: u8, low: u8) -> u16
 
 pub(crate) fn read_number(file: &[u8], at: usize) -> Number
     requires { at ≤ length file.now }
-    ensures result_value { number_in file.now result ≡ number 2 (drop at file.now) }
-    ensures number_fits { NumberFits file.now result }
+    ensures parsed { number_in file.now result ≡ number 2 (drop at file.now) }
+    ensures fits { NumberFits file.now result }
 {
     if file.len() - at < 2 {
         return Number::Early;

@@ -15,8 +15,8 @@ use crate::{FileRefusal, Form, Test, Written, scan};
 
 // The station's first refusal, in the file's order. In memory a sheet is as in form 2.
 fn check(rom: &[u16], sheet: &[u8], inputs: &[u8]) -> Test
-    ensures result_value { test_number result ≡ station_refusal form2 (station_of rom.now sheet.now inputs.now) }
-    ensures test_fits { TestFits rom.now sheet.now result }
+    ensures tested { test_number result ≡ station_refusal form2 (station_of rom.now sheet.now inputs.now) }
+    ensures fits { TestFits rom.now sheet.now result }
 {
     let form = form_2();
     if !rom_count(rom.len()) {

@@ -53,8 +53,8 @@ fn put_file(file: &[u8], out: &mut [u8]) -> usize
 // What `station` prints for a file, put into a lent buffer. One of 100,000 bytes is never too short; a shorter one may be, and
 // then it stays as it is, so the text is measured first.
 pub fn transcript(file: &[u8], out: &mut [u8]) -> Printed
-    ensures out_after { printed_by result out.new ≡ print_of file.now out.old }
-    ensures file_len_bound { length (transcript_of file.now) ≤ 100000 }
+    ensures printed { printed_by result out.new ≡ print_of file.now out.old }
+    ensures never_longer { length (transcript_of file.now) ≤ 100000 }
 {
     if 100000 <= out.len() {
         return Printed::Text(put_file(file, out));

@@ -12,8 +12,8 @@ use sheet::entry_at;
 
 // The first word that breaks a rule, with its first rule, for one model. The last promise is demand 3 on that model.
 pub fn verify(model: Model, rom: &[u16], sheet: &[u8]) -> Verdict
-    ensures result_value { answer_of result ≡ verify_of (chip_of model) rom.now sheet.now }
-    ensures variant { (answer_of result ≡ pass) ↔ Clear (chip_of model) rom.now sheet.now }
+    ensures verdict { answer_of result ≡ verify_of (chip_of model) rom.now sheet.now }
+    ensures clear { (answer_of result ≡ pass) ↔ Clear (chip_of model) rom.now sheet.now }
     ensures safe { answer_of result ≡ pass → Safe (chip_of model) rom.now sheet.now }
 {
     if rom.len() == 0 {
