@@ -1,6 +1,6 @@
 -- What a flow does to the PC, the stack and the marks: document 01, "Results" and refusals 5, 6 and 7.
 -- Assumes nothing.
-use Rattle.std.specs.Prelude.{ℕ, ◌+◌, ◌-◌, ◌^◌, Bool, false, cond, set, ◌==◌, nat_le, slice_index, slice_set}
+use Rattle.std.specs.Prelude.{ℕ, ◌+◌, ◌-◌, ◌^◌, Bool, false, cond, ◌==◌, nat_le, slice_index, slice_set}
 use Rattle.laws.specs.Bit.{bit}
 use Rattle.laws.specs.Wrap.{wrap_next}
 use Rattle.memory.specs.Chip.{Chip}

@@ -1,6 +1,6 @@
 -- Where an operand's cell is missing, nothing else refuses the instruction: it would go on to the next word.
 -- Assumes nothing.
-use mathlib.Core.Path.{◌≡◌, ◌∙◌, ap, refl, sym}
+use mathlib.Core.Path.{◌≡◌, ◌∙◌, refl, sym}
 use mathlib.Core.Bool.{Bool, true, false, ◌||◌, cond, or-false, false≢true}
 use mathlib.Core.List.{List}
 use Prim.Native.Nat.{ℕ}
@@ -15,7 +15,7 @@ use Rattle.machine.specs.Signals.{Signals}
 use Rattle.machine.specs.declared.Machine.{Machine}
 use Rattle.control.specs.Control.{control_of, onward_of}
 use Rattle.control.specs.Flow.{flow_of}
-use Rattle.peripherals.specs.Registers.{in_file, is_control, is_data}
+use Rattle.peripherals.specs.Registers.{in_file, is_data}
 use Rattle.operations.specs.Operands.{address_in, addresses_of, lacks_at, no_cell}
 use Rattle.cpu.specs.Execute.{execute_of, lacks_of, past_table, transfer_by}
 use Rattle.cpu.specs.Reply.{refused_step}

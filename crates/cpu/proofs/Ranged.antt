@@ -1,7 +1,7 @@
 -- A machine in range stays so under every step.
 -- Assumes nothing.
 use mathlib.Core.Path.{◌≡◌, refl}
-use mathlib.Core.Bool.{Bool, true, false, ◌&&◌, cond}
+use mathlib.Core.Bool.{Bool, true, false, cond}
 use mathlib.Core.List.{List}
 use Prim.Native.Nat.{ℕ, ◌^◌, ◌<◌, ◌≤◌}
 use native.Mathlib.Omega.{arith}
@@ -26,7 +26,7 @@ use Rattle.machine.specs.Ranges.{places, machine_in_range, all_in_range}
 use Rattle.machine.specs.declared.Control.{Control}
 use Rattle.machine.specs.Signals.{Signals}
 use Rattle.machine.specs.declared.Machine.{Machine}
-use Rattle.control.specs.Control.{Transfer, goes, refused_control, jump_to, mark_of, with_skip, with_standby, pushed as pushedOf, popped as poppedOf, top_of, next_of, onwards, unless_full, unless_empty, by_ar_of, control_of, branch_of, call_of, return_of, push_of, pop_of, table_of, standby_of, onward_of}
+use Rattle.control.specs.Control.{Transfer, goes, refused_control, jump_to, mark_of, with_skip, pushed as pushedOf, popped as poppedOf, top_of, next_of, onwards, unless_full, unless_empty, by_ar_of, control_of, branch_of, call_of, return_of, push_of, pop_of, table_of, standby_of, onward_of}
 use Rattle.control.specs.Flow.{flow_of}
 use Rattle.control.specs.declared.Rest.{Rest}
 use Rattle.control.specs.declared.Rest.TheVariants.{Halt, Stop}
@@ -40,7 +40,7 @@ use Rattle.operations.specs.Writes.{holds_of, writes_of}
 use Rattle.cpu.specs.Execute.{data_of, sources_of, set_of, lacks_of, past_table, written_of, transfer_by, execute_of}
 use Rattle.cpu.specs.Cycles.{next_cycles}
 use Rattle.cpu.specs.Reply.{Reply, done, in_standby, refused, Step, completed_step, standing_step, refused_step}
-use Rattle.cpu.specs.Step.{is_standing, waits, ticked_by, stood_by, woken, unless_refused, decoded_of, pass_over, fetch_of, advance_of, step_of}
+use Rattle.cpu.specs.Step.{waits, ticked_by, stood_by, woken, unless_refused, decoded_of, pass_over, fetch_of, advance_of, step_of}
 use Rattle.cpu.proofs.RangeParts.{machine_parts}
 use Rattle.cpu.proofs.Levels.{Fine, fine, in_range_lem, marks_in_range_lem, jumped, went_on, with_skip_lem, with_standby_lem, pushed, popped, top_below}
 

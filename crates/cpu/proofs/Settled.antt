@@ -4,9 +4,7 @@ use mathlib.Core.Path.{◌≡◌, ◌∙◌, ap, refl, sym, subst}
 use mathlib.Core.Bool.{Bool, true, false}
 use mathlib.Core.List.{List}
 use Prim.Native.Nat.{ℕ}
-use native.Mathlib.Omega.{arith}
 use lib.Dec.{eqb}
-use lib.ListN.{get_or}
 use Rattle.isa.specs.declared.Instruction.{Instruction}
 use Rattle.memory.specs.Chip.{Chip}
 use Rattle.memory.specs.Registers.{ar_of}
@@ -19,7 +17,7 @@ use Rattle.peripherals.specs.declared.Peripherals.{Peripherals}
 use Rattle.machine.specs.declared.Machine.{Machine}
 use Rattle.machine.specs.declared.Refusal.{Refusal}
 use Rattle.machine.specs.declared.Refusal.TheVariants.{OutOfRange, PastRom, NoInstruction, Unsupported, NoRegister, BadTarget, StackFull, StackEmpty, PastTable, MissingCell}
-use Rattle.control.specs.Control.{Transfer, control_of, goes, onward_of, refused_control, top_of}
+use Rattle.control.specs.Control.{Transfer, control_of, goes, onward_of, refused_control}
 use Rattle.control.specs.Flow.{flow_of}
 use Rattle.control.specs.Transfers.{transfer_of, with_stack}
 use Rattle.control.specs.declared.Flow.TheVariants.{Onward}

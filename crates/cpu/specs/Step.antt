@@ -1,6 +1,6 @@
 -- A step, in the phases of document 01: refusals in the order of its table, and a refusal leaves the record as it came.
 -- Assumes nothing.
-use Rattle.std.specs.Prelude.{Bool, true, false, ◌&&◌, cond, List, ℕ, eqb, leb, get_or, length}
+use Rattle.std.specs.Prelude.{Bool, false, ◌&&◌, cond, List, ℕ, eqb, leb, get_or, length}
 use Rattle.isa.specs.Answers.{Decoding, is, refused as refused_word}
 use Rattle.isa.specs.Decode.{decode_of}
 use Rattle.memory.specs.Chip.{Chip}

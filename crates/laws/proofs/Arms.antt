@@ -2,7 +2,7 @@
 -- each key holds in that arm. The arm `_`, `c.match.rest`: the number is none of the other arms' keys. So what a computed test
 -- shows of each number that is no key, or lies outside the arms that are ranges, holds in that arm.
 -- Assumes nothing.
-use mathlib.Core.Path.{◌≡◌, refl, ap}
+use mathlib.Core.Path.{◌≡◌}
 use mathlib.Core.List.{List, [], ◌∷◌, map}
 use mathlib.Core.Bool.{Bool, true, false, ◌&&◌, ◌||◌}
 use Prim.Native.Nat.{ℕ, ◌<◌, ◌≤◌}

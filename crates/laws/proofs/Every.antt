@@ -1,12 +1,11 @@
 -- A test at each number below a bound holds at one of them; and the other way.
 -- Assumes nothing.
-use mathlib.Core.Path.{◌≡◌, ◌∙◌, ap, subst, sym}
+use mathlib.Core.Path.{◌≡◌, ◌∙◌, subst, sym}
 use mathlib.Core.Logic.{⊎_elim}
-use mathlib.Core.Bool.{Bool, true, false, ◌&&◌, cond, false≢true}
-use Prim.Native.Nat.{ℕ, zero, suc, ◌+◌, ◌<◌}
-use native.Mathlib.Nat.{add-zero, eq-or-lt_of_le, le_of_suc-le-suc, le_refl, le_step, not-suc-le-zero}
-use native.Mathlib.Numerals.{add-one}
-use lib.Dec.{T, eqb, eqb-suc-zero}
+use mathlib.Core.Bool.{Bool, true, false, ◌&&◌, false≢true}
+use Prim.Native.Nat.{ℕ, zero, suc, ◌<◌}
+use native.Mathlib.Nat.{eq-or-lt_of_le, le_of_suc-le-suc, le_refl, le_step, not-suc-le-zero}
+use lib.Dec.{T}
 use Rattle.laws.specs.Every.{every}
 use Rattle.laws.proofs.Booleans.{not_passed}
 

@@ -1,7 +1,7 @@
 -- Where no pulse can come the timer's tick is its divider's.
 -- Assumes nothing.
-use Rattle.std.proofs.Common.{◌≡◌, ℕ, zero, suc, ◌+◌, ◌-◌, ◌%◌, ◌<◌, ◌≤◌, Bool, true, false, cond, not, ◌&&◌, eqb, ltb, leb, List, sym, refl, subst, arith, ltb-false, leb-true}
-use Rattle.peripherals.specs.Pace.{counts, Quiet, rest_in, rest_of, turned_of, paced_of, left_of, PaceLaws}
+use Rattle.std.proofs.Common.{◌≡◌, ℕ, zero, suc, ◌+◌, ◌-◌, ◌%◌, ◌<◌, ◌≤◌, Bool, true, false, cond, not, ◌&&◌, eqb, ltb, leb, refl, subst, arith, ltb-false, leb-true}
+use Rattle.peripherals.specs.Pace.{Quiet, rest_in, rest_of, turned_of, paced_of, left_of, PaceLaws}
 use Rattle.peripherals.specs.Registers.{is_on}
 use Rattle.peripherals.specs.Table.{TM, TMEN}
 use Rattle.peripherals.specs.Timer.{clock_of, period_of, pulses_of, comes_of, tick_of}

@@ -1,5 +1,4 @@
 use native.Mathlib.Omega.{arith}
-use borrow.Author.Rules.{rules}
 use Rattle.alu.specs.Results.{add_of, binary_sum}
 use Rattle.laws.proofs.Bits.{byte_bit, byte_below}
 use Rattle.alu.proofs.add.Goals as goal

@@ -1,5 +1,4 @@
 use native.Mathlib.Omega.{arith}
-use borrow.Author.Rules.{rules}
 use Rattle.alu.specs.Results.{rotate_of}
 use Rattle.laws.proofs.Bits.{byte_bit, byte_below}
 use Rattle.alu.proofs.rotate.Goals as goal

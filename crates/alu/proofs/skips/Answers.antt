@@ -1,4 +1,3 @@
-use borrow.Author.Rules.{rules}
 use Rattle.alu.specs.Results.{condition_of}
 use Rattle.alu.proofs.skips.Goals as goal
 

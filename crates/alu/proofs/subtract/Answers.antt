@@ -1,5 +1,4 @@
 use native.Mathlib.Omega.{arith}
-use borrow.Author.Rules.{rules}
 use Rattle.alu.specs.Results.{subtract_of}
 use Rattle.laws.proofs.Bits.{byte_below}
 use Rattle.alu.proofs.Rows.{binary_difference_lem, operands_row}

@@ -1,7 +1,6 @@
-use Rattle.std.proofs.Common.{rules, le-leb}
+use Rattle.std.proofs.Common.{le-leb}
 use borrow.Author.Tests.{lt-leb}
 use Rattle.control.specs.Control.{call_of}
-use Rattle.memory.proofs.Numbers.{levels_fit}
 use Rattle.control.proofs.call.Goals as goal
 
 pub returns-then-levels : goal.returns-then-levels

@@ -1,4 +1,4 @@
-use Rattle.std.proofs.Common.{pow_pos, rules}
+use Rattle.std.proofs.Common.{pow_pos}
 use Rattle.memory.proofs.Numbers.{next_wraps}
 use Rattle.control.proofs.next.Goals as goal
 

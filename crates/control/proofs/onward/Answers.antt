@@ -1,6 +1,5 @@
 use Rattle.laws.proofs.Bits.{byte_bit}
 use Rattle.control.specs.Control.{onward_of}
-use Rattle.std.proofs.Common.{rules}
 use Rattle.control.proofs.onward.Goals as goal
 
 pub returns : goal.returns

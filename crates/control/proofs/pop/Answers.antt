@@ -1,4 +1,4 @@
-use Rattle.std.proofs.Common.{rules, eq-eqb, ne_eqb}
+use Rattle.std.proofs.Common.{eq-eqb, ne_eqb}
 use Rattle.control.specs.Control.{pop_of}
 use Rattle.control.proofs.pop.Goals as goal
 

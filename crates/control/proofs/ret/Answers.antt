@@ -1,5 +1,5 @@
 use Rattle.laws.proofs.Bits.{byte_bit}
-use Rattle.std.proofs.Common.{rules, eq-eqb, ne_eqb}
+use Rattle.std.proofs.Common.{eq-eqb, ne_eqb}
 use Rattle.control.specs.Control.{return_of}
 use Rattle.control.proofs.ret.Goals as goal
 

@@ -1,5 +1,4 @@
 use Rattle.control.specs.Control.{standby_of}
-use Rattle.std.proofs.Common.{rules}
 use Rattle.control.proofs.stand.Goals as goal
 
 pub returns : goal.returns

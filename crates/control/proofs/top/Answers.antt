@@ -1,4 +1,3 @@
-use Rattle.std.proofs.Common.{rules}
 use Rattle.control.proofs.top.Goals as goal
 
 pub returns-then-levels-eq0 : goal.returns-then-levels-eq0

@@ -1,6 +1,5 @@
 use Rattle.text.specs.Hex.{hex_digit_of, hex_digits_of}
 use native.Mathlib.Nat.{mod-mod}
-use borrow.Author.Rules.{rules}
 use Rattle.text.proofs.hex4.Goals as goal
 
 pub returns : goal.returns

@@ -1,6 +1,5 @@
 use mathlib.Core.Path.{refl}
 use Rattle.text.specs.Hex.{hex_digit_of, codes}
-use borrow.Author.Rules.{rules}
 use Rattle.text.proofs.hex_digit.Goals as goal
 
 pub returns : goal.returns

@@ -1,4 +1,3 @@
-use borrow.Author.Rules.{rules}
 use Rattle.alu.proofs.Rows.{no_other}
 use Rattle.alu.proofs.table.sum.Goals as goal
 

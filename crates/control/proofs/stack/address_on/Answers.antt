@@ -1,4 +1,3 @@
-use Rattle.std.proofs.Common.{rules}
 use Rattle.control.proofs.stack.address_on.Goals as goal
 
 pub returns-then-place-ge5 : goal.returns-then-place-ge5

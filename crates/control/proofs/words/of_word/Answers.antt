@@ -1,4 +1,4 @@
-use Rattle.std.proofs.Common.{[], ◌∷◌, refl, rules}
+use Rattle.std.proofs.Common.{[], ◌∷◌, refl}
 use Rattle.laws.proofs.Arms.{in_arm}
 use Rattle.isa.specs.Decode.{decode_of, entry_of, overview}
 use Rattle.isa.proofs.Overview.{op_below}

@@ -10,7 +10,6 @@ use Rattle.operations.specs.Settings.{settings_of}
 use Rattle.operations.specs.Writes.{holds_at, writes_at, writes_of}
 use Rattle.cpu.specs.Execute.{execute_of, lacks_of, written_of, transfer_by, past_table}
 use Rattle.cpu.proofs.Settled.{carried, completes, lacked, lacking, moves, told, written}
-use borrow.Author.Rules.{rules}
 use Rattle.cpu.proofs.execution.execute.Goals as goal
 
 pub returns-then-lacks : goal.returns-then-lacks

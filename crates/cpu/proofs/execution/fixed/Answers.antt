@@ -12,7 +12,6 @@ use Rattle.operations.specs.Operands.{address_in, addresses_of, lacks_at}
 use Rattle.operations.specs.Settings.{settings_of}
 use Rattle.operations.specs.Writes.{writes_at, writes_of}
 use Rattle.cpu.specs.Execute.{lacks_of, written_of, transfer_by, past_table}
-use borrow.Author.Rules.{rules}
 use Rattle.cpu.proofs.execution.fixed.Goals as goal
 
 pub returns-in-IncAr : goal.returns-in-IncAr

@@ -5,7 +5,6 @@ use Rattle.operations.specs.Settings.{settings_of}
 use Rattle.operations.specs.Writes.{writes_at, writes_of}
 use Rattle.cpu.specs.Execute.{lacks_of, written_of, transfer_by, past_table}
 use Rattle.cpu.proofs.Settled.{completes, refuses}
-use borrow.Author.Rules.{rules}
 use Rattle.cpu.proofs.execution.pop_ar.Goals as goal
 
 pub returns-in_default : goal.returns-in_default

@@ -1,10 +1,9 @@
 use Rattle.machine.proofs.Marks.{is_marked_lem, not_marked}
 use mathlib.Core.Path.{◌≡◌, sym, ◌∙◌, ap, subst}
-use mathlib.Core.Bool.{Bool, true, false, cond, ◌&&◌}
+use mathlib.Core.Bool.{Bool, true, cond, ◌&&◌}
 use mathlib.Core.List.{List}
-use Prim.Native.Nat.{ℕ, ◌-◌, ◌≤◌}
+use Prim.Native.Nat.{ℕ}
 use native.Mathlib.Omega.{arith}
-use borrow.Author.Rules.{rules}
 use borrow.Author.Tests.{not-true, not-false}
 use lib.Dec.{eqb}
 use lib.ListN.{get_or}
@@ -13,7 +12,7 @@ use Rattle.memory.proofs.Numbers.{levels_fit}
 use Rattle.memory.specs.declared.Model.{Model}
 use Rattle.cpu.specs.Reply.{Reply}
 use Rattle.cpu.specs.declared.Count.{Count}
-use Rattle.cpu.specs.Joined.{signals_at, whole_of}
+use Rattle.cpu.specs.Joined.{whole_of}
 use Rattle.cpu.specs.Step.{waits}
 use Rattle.machine.specs.Parts.{HALT, is_marked, machine_of, cells_of}
 use Rattle.machine.specs.Ranges.{all_in_range}
@@ -24,7 +23,6 @@ use Rattle.peripherals.specs.Parts.{with_timer}
 use Rattle.peripherals.specs.Timer.{tick_of}
 use Rattle.peripherals.specs.declared.Peripherals.{Peripherals}
 use Rattle.cpu.proofs.ArFits.{ar_fits}
-use Rattle.peripherals.specs.Pace.{Quiet}
 use Rattle.cpu.proofs.Costs.{cycles_few, cycles_some}
 use Rattle.cpu.proofs.Loop.{Going, Ends, not_so_many, not_in_range, no_budget, stays_so, begun, used, stood, refuses, going}
 use Rattle.cpu.proofs.Paced.{ticked_so, still_quiet}

@@ -1,4 +1,3 @@
-use borrow.Author.Rules.{rules}
 use Rattle.cpu.proofs.running.run.Goals as goal
 
 pub returns : goal.returns

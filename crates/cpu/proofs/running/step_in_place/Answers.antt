@@ -1,5 +1,4 @@
 use mathlib.Core.Path.{◌∙◌, ap, refl}
-use borrow.Author.Rules.{rules}
 use Rattle.cpu.specs.Run.{Run}
 use Rattle.cpu.proofs.Turns.{single}
 use Rattle.cpu.proofs.running.step_in_place.Goals as goal

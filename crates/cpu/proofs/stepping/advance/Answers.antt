@@ -14,7 +14,6 @@ use Rattle.cpu.specs.Cycles.{cycles_of}
 use Rattle.cpu.specs.Joined.{signals_at}
 use Rattle.cpu.proofs.Costs.{skipped_cycles, run_cycles}
 use Rattle.cpu.proofs.Phases.{past, passed_over, undecodable, carried_out, refused_so, past_rom, word_at}
-use borrow.Author.Rules.{rules}
 use Rattle.cpu.proofs.stepping.advance.Goals as goal
 
 pub returns-in_default : goal.returns-in_default

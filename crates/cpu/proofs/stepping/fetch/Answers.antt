@@ -1,5 +1,4 @@
 use borrow.Author.Tests.{le-leb, lt-leb}
-use borrow.Author.Rules.{rules}
 use Rattle.cpu.proofs.stepping.fetch.Goals as goal
 
 pub returns-then-rom-at : goal.returns-then-rom-at

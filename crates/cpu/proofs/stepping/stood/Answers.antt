@@ -2,7 +2,6 @@ use mathlib.Core.Path.{◌∙◌, ap}
 use borrow.Author.Tests.{eq-eqb, ne_eqb}
 use Rattle.peripherals.specs.Timer.{tick_of}
 use Rattle.peripherals.specs.declared.Peripherals.{Peripherals}
-use borrow.Author.Rules.{rules}
 use Rattle.cpu.proofs.stepping.stood.Goals as goal
 
 pub returns-then-standby-ne-HALT : goal.returns-then-standby-ne-HALT

@@ -1,5 +1,4 @@
 use mathlib.Core.Path.{sym, ◌∙◌}
-use borrow.Author.Rules.{rules}
 use Rattle.cpu.proofs.stepping.word_cycles.Goals as goal
 
 pub returns-then-reads_table : goal.returns-then-reads_table

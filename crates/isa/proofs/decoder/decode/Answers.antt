@@ -1,6 +1,5 @@
 use Rattle.isa.proofs.Overview.{unlisted, op_below}
 use Rattle.isa.specs.Decode.{decode_of, entry_of, overview}
-use borrow.Author.Rules.{rules}
 use Rattle.isa.proofs.decoder.decode.Goals as goal
 
 pub returns-in-0 : goal.returns-in-0

@@ -3,7 +3,6 @@ use mathlib.Core.Path.{◌∙◌}
 use Rattle.isa.proofs.Group.{gap₁, gap₂, gap₃, gap₄}
 use Rattle.isa.proofs.Group.{at_sub, column_of, row_of, sixteen, unlisted}
 use Rattle.isa.specs.Decode.{columns}
-use borrow.Author.Rules.{rules}
 use Rattle.isa.proofs.decoder.group_word.Goals as goal
 
 pub returns-in-2 : goal.returns-in-2

@@ -1,7 +1,6 @@
 use mathlib.Core.Path.{refl}
 use lib.Dec.{lit<}
 use Rattle.isa.specs.Encode.{word_of}
-use borrow.Author.Rules.{rules}
 use Rattle.isa.proofs.encoder.alu_code.Goals as goal
 
 pub returns-in-Add : goal.returns-in-Add

@@ -1,5 +1,4 @@
 use borrow.Author.Tests.{le-ltb, lt-ltb}
-use borrow.Author.Rules.{rules}
 use Rattle.isa.proofs.encoder.around.Goals as goal
 
 pub returns-then-p-ge128 : goal.returns-then-p-ge128

@@ -1,7 +1,6 @@
 use Rattle.isa.specs.Encode.{word_of}
 use Rattle.isa.proofs.Words.{register, immediate, skip}
 use Rattle.isa.specs.Encode.{encode_of, fits}
-use borrow.Author.Rules.{rules}
 use Rattle.isa.proofs.encoder.encode.Goals as goal
 
 pub returns-in-AluRegister : goal.returns-in-AluRegister

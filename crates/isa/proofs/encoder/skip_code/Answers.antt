@@ -1,7 +1,6 @@
 use mathlib.Core.Path.{refl}
 use lib.Dec.{lit<}
 use Rattle.isa.specs.Encode.{word_of}
-use borrow.Author.Rules.{rules}
 use Rattle.isa.proofs.encoder.skip_code.Goals as goal
 
 pub returns-in-Skt : goal.returns-in-Skt

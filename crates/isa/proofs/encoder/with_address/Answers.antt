@@ -1,7 +1,6 @@
 use borrow.Author.Tests.{le-ltb, lt-ltb}
 use mathlib.Core.Bool.{and-false}
 use Rattle.isa.proofs.Words.{side_by_side}
-use borrow.Author.Rules.{rules}
 use Rattle.isa.proofs.encoder.with_address.Goals as goal
 
 pub returns-then-m-ge128 : goal.returns-then-m-ge128

@@ -1,5 +1,4 @@
 use borrow.Author.Tests.{le-ltb, lt-ltb}
-use borrow.Author.Rules.{rules}
 use Rattle.isa.proofs.encoder.with_target.Goals as goal
 
 pub returns-then-addr-ge2048 : goal.returns-then-addr-ge2048

@@ -1,4 +1,4 @@
-use Rattle.std.proofs.Common.{◌≡◌, ◌-◌, ◌≤◌, ◌∙◌, subst, arith, rules}
+use Rattle.std.proofs.Common.{◌≡◌, ◌∙◌, subst, arith, rules}
 use Rattle.laws.proofs.First.{Clear, clear_more}
 use Rattle.listing.proofs.Search.{absent, none, found_at, absent_at}
 use Rattle.listing.proofs.decoder.decode.Goals as goal

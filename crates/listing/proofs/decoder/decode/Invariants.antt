@@ -1,6 +1,6 @@
-use Rattle.std.proofs.Common.{◌≡◌, ◌-◌, ◌≤◌, ◌∙◌, subst, arith, rules}
-use Rattle.laws.proofs.First.{Clear, clear_more}
-use Rattle.listing.proofs.Search.{absent, none, found_at, absent_at}
+use Rattle.std.proofs.Common.{◌-◌, ◌≤◌}
+use Rattle.laws.proofs.First.{Clear}
+use Rattle.listing.proofs.Search.{absent}
 use Rattle.listing.proofs.decoder.decode.Given as goal
 
 abbrev pub invariant-loop-row : goal.invariant-loop-row

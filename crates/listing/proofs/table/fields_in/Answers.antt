@@ -1,4 +1,3 @@
-use Rattle.std.proofs.Common.{rules}
 use Rattle.listing.proofs.table.fields_in.Goals as goal
 
 pub returns-in-Plain : goal.returns-in-Plain

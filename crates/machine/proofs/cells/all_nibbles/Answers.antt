@@ -1,8 +1,5 @@
 use mathlib.Core.Path.{◌≡◌, ◌∙◌, ap, refl}
-use Prim.Native.Nat.{◌≤◌, ◌-◌}
 use native.Mathlib.Omega.{arith}
-use borrow.Author.Rules.{rules}
-use lib.Dec.{ltb}
 use Rattle.laws.specs.Every.{every}
 use Rattle.machine.specs.Ranges.{is_nibble}
 use Rattle.machine.proofs.Nibbles.{one_more}

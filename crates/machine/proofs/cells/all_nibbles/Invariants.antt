@@ -1,11 +1,8 @@
-use mathlib.Core.Path.{◌≡◌, ◌∙◌, ap, refl}
+use mathlib.Core.Path.{◌≡◌}
 use Prim.Native.Nat.{◌≤◌, ◌-◌}
-use native.Mathlib.Omega.{arith}
-use borrow.Author.Rules.{rules}
 use lib.Dec.{ltb}
 use Rattle.laws.specs.Every.{every}
 use Rattle.machine.specs.Ranges.{is_nibble}
-use Rattle.machine.proofs.Nibbles.{one_more}
 use Rattle.machine.proofs.cells.all_nibbles.Given as goal
 
 abbrev pub invariant-loop-i : goal.invariant-loop-i

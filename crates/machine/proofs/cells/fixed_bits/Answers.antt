@@ -1,7 +1,6 @@
 use borrow.Author.Tests.{not-true, not-false}
 use mathlib.Core.Path.{sym, ◌∙◌}
 use mathlib.Core.Bool.{and-false}
-use borrow.Author.Rules.{rules}
 use Rattle.machine.proofs.cells.fixed_bits.Goals as goal
 
 pub returns-then-not-stays : goal.returns-then-not-stays

@@ -1,7 +1,6 @@
 use borrow.Author.Tests.{not-true, not-false}
 use mathlib.Core.Bool.{and-false}
 use mathlib.Core.Path.{◌∙◌, sym}
-use borrow.Author.Rules.{rules}
 use Rattle.machine.proofs.Split.{split}
 use Rattle.machine.proofs.cells.in_range.Goals as goal
 

@@ -1,8 +1,5 @@
 use mathlib.Core.Path.{◌≡◌, ◌∙◌, ap, refl, sym}
-use Prim.Native.Nat.{◌≤◌, ◌-◌}
 use native.Mathlib.Omega.{arith}
-use borrow.Author.Rules.{rules}
-use lib.Dec.{eqb}
 use Rattle.laws.specs.Every.{every}
 use Rattle.memory.specs.Chip.{chip_of}
 use Rattle.machine.specs.FixedBits.{empty_if_missing}

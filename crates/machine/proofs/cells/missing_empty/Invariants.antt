@@ -1,12 +1,9 @@
-use mathlib.Core.Path.{◌≡◌, ◌∙◌, ap, refl, sym}
+use mathlib.Core.Path.{◌≡◌}
 use Prim.Native.Nat.{◌≤◌, ◌-◌}
-use native.Mathlib.Omega.{arith}
-use borrow.Author.Rules.{rules}
 use lib.Dec.{eqb}
 use Rattle.laws.specs.Every.{every}
 use Rattle.memory.specs.Chip.{chip_of}
 use Rattle.machine.specs.FixedBits.{empty_if_missing}
-use Rattle.machine.proofs.Missing.{none_missing, one_more}
 use Rattle.machine.proofs.cells.missing_empty.Given as goal
 
 abbrev pub invariant-loop-i : goal.invariant-loop-i

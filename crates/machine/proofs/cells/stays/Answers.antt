@@ -1,5 +1,4 @@
 use Rattle.memory.specs.Write.{kept_of}
-use borrow.Author.Rules.{rules}
 use Rattle.machine.proofs.cells.stays.Goals as goal
 
 pub returns : goal.returns

@@ -1,5 +1,4 @@
 use mathlib.Core.Path.{◌∙◌, sym}
-use borrow.Author.Rules.{rules}
 use Rattle.machine.proofs.cells.surplus.Goals as goal
 
 pub returns-then-is_installed : goal.returns-then-is_installed

@@ -1,7 +1,6 @@
 use borrow.Author.Tests.{not-true, not-false}
 use mathlib.Core.Path.{sym, ◌∙◌}
 use Rattle.machine.specs.Ranges.{all_in_range}
-use borrow.Author.Rules.{rules}
 use Rattle.machine.proofs.ranges.all.Goals as goal
 
 pub returns-then-not-machine : goal.returns-then-not-machine

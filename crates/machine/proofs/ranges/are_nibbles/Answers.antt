@@ -1,6 +1,5 @@
 use Rattle.machine.specs.Ranges.{is_nibble}
 use Rattle.machine.proofs.Nibbles.{or_nibble, five}
-use borrow.Author.Rules.{rules}
 use Rattle.machine.proofs.ranges.are_nibbles.Goals as goal
 
 pub returns : goal.returns

@@ -1,4 +1,3 @@
-use borrow.Author.Rules.{rules}
 use Rattle.machine.proofs.ranges.can_be_open.Goals as goal
 
 pub returns : goal.returns

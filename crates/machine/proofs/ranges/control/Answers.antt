@@ -1,7 +1,6 @@
 use borrow.Author.Tests.{not-true, not-false}
 use mathlib.Core.Path.{sym, ◌∙◌}
 use Rattle.machine.specs.Ranges.{control_in_range}
-use borrow.Author.Rules.{rules}
 use Rattle.machine.proofs.ranges.control.Goals as goal
 
 pub returns-then-not-is_address : goal.returns-then-not-is_address

@@ -1,7 +1,6 @@
 use borrow.Author.Tests.{not-true, not-false}
 use mathlib.Core.Path.{sym, ◌∙◌}
 use Rattle.machine.specs.Ranges.{signals_in_range}
-use borrow.Author.Rules.{rules}
 use Rattle.machine.proofs.ranges.given.Goals as goal
 
 pub returns-then-not-input : goal.returns-then-not-input

@@ -1,7 +1,6 @@
 use borrow.Author.Tests.{not-true, not-false}
 use mathlib.Core.Path.{sym, ◌∙◌}
 use Rattle.machine.specs.Ranges.{input_in_range}
-use borrow.Author.Rules.{rules}
 use Rattle.machine.proofs.ranges.input.Goals as goal
 
 pub returns-then-not-are_nibbles : goal.returns-then-not-are_nibbles

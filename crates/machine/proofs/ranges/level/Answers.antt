@@ -1,5 +1,4 @@
 use borrow.Author.Tests.{lt-ltb, le-ltb}
-use borrow.Author.Rules.{rules}
 use Rattle.machine.proofs.ranges.level.Goals as goal
 
 pub returns-then-k-levels : goal.returns-then-k-levels

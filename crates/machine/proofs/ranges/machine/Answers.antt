@@ -1,7 +1,6 @@
 use borrow.Author.Tests.{not-true, not-false}
 use mathlib.Core.Path.{sym, ◌∙◌}
 use Rattle.machine.specs.Ranges.{machine_in_range}
-use borrow.Author.Rules.{rules}
 use Rattle.machine.proofs.ranges.machine.Goals as goal
 
 pub returns-then-not-in_range : goal.returns-then-not-in_range

@@ -2,7 +2,6 @@ use borrow.Author.Tests.{lt-ltb}
 use Rattle.machine.specs.Ranges.{rom_in_range}
 use lib.ListN.{length}
 use native.Mathlib.Omega.{arith}
-use borrow.Author.Rules.{rules}
 use Rattle.machine.proofs.ranges.rom.Goals as goal
 
 pub returns-then-words-eq0 : goal.returns-then-words-eq0

@@ -8,7 +8,6 @@ use Rattle.laws.proofs.Every.{every_not}
 use Rattle.memory.specs.Chip.{Chip, chip_of}
 use Rattle.machine.specs.Ranges.{level_in_range, places}
 use Rattle.machine.specs.declared.Control.{Control}
-use borrow.Author.Rules.{rules}
 -- one place out of range is enough
 use Rattle.machine.proofs.ranges.stack.Goals as goal
 

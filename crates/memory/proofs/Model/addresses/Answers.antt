@@ -1,4 +1,3 @@
-use Rattle.std.proofs.Common.{rules}
 use Rattle.memory.proofs.Model.addresses.Goals as goal
 
 pub returns-in-Upd17132 : goal.returns-in-Upd17132

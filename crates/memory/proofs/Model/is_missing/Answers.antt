@@ -1,4 +1,4 @@
-use Rattle.std.proofs.Common.{rules, le-ltb, lt-ltb}
+use Rattle.std.proofs.Common.{le-ltb, lt-ltb}
 use Rattle.memory.proofs.Model.is_missing.Goals as goal
 
 pub returns-then-at-ge128 : goal.returns-then-at-ge128

@@ -1,5 +1,4 @@
 use Rattle.memory.specs.Chip.{is_whole}
-use Rattle.std.proofs.Common.{rules}
 use Rattle.memory.proofs.Model.is_whole.Goals as goal
 
 pub returns-in-Upd17132 : goal.returns-in-Upd17132

@@ -1,5 +1,4 @@
 use Rattle.memory.specs.Address.{address_of}
-use Rattle.std.proofs.Common.{rules}
 use Rattle.memory.proofs.addressing.address.Goals as goal
 
 pub returns-then-is_set : goal.returns-then-is_set

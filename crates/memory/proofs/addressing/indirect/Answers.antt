@@ -1,5 +1,4 @@
 use Rattle.memory.specs.Address.{indirect_of}
-use Rattle.std.proofs.Common.{rules}
 use Rattle.memory.proofs.addressing.indirect.Goals as goal
 
 pub returns-then-is_set : goal.returns-then-is_set

@@ -1,4 +1,4 @@
-use Rattle.std.proofs.Common.{refl, rules}
+use Rattle.std.proofs.Common.{refl}
 use Rattle.memory.specs.Address.{ix_of}
 use Rattle.memory.proofs.addressing.ix.Goals as goal
 

@@ -1,4 +1,4 @@
-use Rattle.std.proofs.Common.{refl, rules}
+use Rattle.std.proofs.Common.{refl}
 use Rattle.memory.specs.Address.{register_of}
 use Rattle.memory.proofs.addressing.register.Goals as goal
 

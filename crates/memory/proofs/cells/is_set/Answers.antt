@@ -1,4 +1,4 @@
-use Rattle.std.proofs.Common.{ℕ, not, eqb, ap, rules}
+use Rattle.std.proofs.Common.{ℕ, not, eqb, ap}
 use lib.Bits.{bit_and}
 use Rattle.memory.proofs.Ports.{some_cell, no_cell_lem}
 use Rattle.memory.specs.Cells.{is_set}

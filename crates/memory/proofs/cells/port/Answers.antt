@@ -1,5 +1,4 @@
 use Rattle.memory.specs.Write.{kept_of}
-use Rattle.std.proofs.Common.{rules}
 use Rattle.memory.proofs.cells.port.Goals as goal
 
 pub returns : goal.returns

@@ -1,4 +1,4 @@
-use Rattle.std.proofs.Common.{◌∙◌, arith, lit≤, rules}
+use Rattle.std.proofs.Common.{◌∙◌, arith, lit≤}
 use Rattle.memory.proofs.Ports.{some_cell, no_cell_lem, below_ports, above_ports, is_port}
 use Rattle.memory.proofs.cells.read.Goals as goal
 

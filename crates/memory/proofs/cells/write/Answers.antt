@@ -1,7 +1,7 @@
-use Rattle.std.proofs.Common.{◌≡◌, ℕ, ◌+◌, ◌-◌, ◌%◌, ◌≤◌, length, ◌∙◌, arith, length-set, rules}
+use Rattle.std.proofs.Common.{◌≡◌, ◌∙◌, arith, length-set, rules}
 use lib.Bits.{bit_and}
 use Rattle.memory.specs.Write.{write_of, kept_of}
-use Rattle.memory.proofs.Passing.{passed, at_first, here, elsewhere, at_last}
+use Rattle.memory.proofs.Passing.{at_first, here, elsewhere, at_last}
 use Rattle.memory.proofs.cells.write.Goals as goal
 use Rattle.memory.proofs.cells.write.Goals.{then-left-eq0, else-left-eq0}
 

@@ -1,7 +1,5 @@
-use Rattle.std.proofs.Common.{◌≡◌, ℕ, ◌+◌, ◌-◌, ◌%◌, ◌≤◌, length, ◌∙◌, ⊎_elim, arith, length-set, rules}
-use lib.Bits.{bit_and}
-use Rattle.memory.specs.Write.{write_of, kept_of}
-use Rattle.memory.proofs.Passing.{passed, at_first, here, elsewhere, at_last}
+use Rattle.std.proofs.Common.{◌≡◌, ◌+◌, ◌-◌, ◌%◌, ◌≤◌, length}
+use Rattle.memory.proofs.Passing.{passed}
 use Rattle.memory.proofs.cells.write.Given as goal
 
 abbrev pub invariant-loop-i : goal.invariant-loop-i

@@ -1,5 +1,4 @@
 use Rattle.memory.specs.Image.{image_of}
-use Rattle.std.proofs.Common.{rules}
 use Rattle.memory.proofs.lamps.image.Goals as goal
 
 pub returns : goal.returns

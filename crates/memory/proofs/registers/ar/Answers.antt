@@ -1,5 +1,4 @@
 use Rattle.memory.specs.Registers.{ar_of}
-use Rattle.std.proofs.Common.{rules}
 use Rattle.memory.proofs.registers.ar.Goals as goal
 
 pub returns : goal.returns

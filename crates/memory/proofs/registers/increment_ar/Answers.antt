@@ -1,4 +1,3 @@
-use Rattle.std.proofs.Common.{rules}
 use Rattle.memory.proofs.registers.increment_ar.Goals as goal
 
 pub returns : goal.returns

@@ -1,4 +1,3 @@
-use Rattle.std.proofs.Common.{rules}
 use Rattle.laws.proofs.Wrap.{cut}
 use Rattle.memory.proofs.registers.next_ar.Goals as goal
 

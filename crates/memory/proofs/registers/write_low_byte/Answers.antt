@@ -1,5 +1,4 @@
 use Rattle.memory.specs.Write.{writes_applied}
-use Rattle.std.proofs.Common.{rules}
 use Rattle.memory.proofs.registers.write_low_byte.Goals as goal
 
 pub returns : goal.returns

@@ -1,5 +1,4 @@
 use Rattle.operations.specs.Writes.{flags_after}
-use borrow.Author.Rules.{rules}
 use Rattle.operations.proofs.arithmetic.flags_after.Goals as goal
 
 pub returns : goal.returns

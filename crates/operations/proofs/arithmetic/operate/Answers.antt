@@ -1,7 +1,6 @@
 use Rattle.alu.specs.Results.{operate_of}
 use Rattle.memory.specs.Write.{writes_applied}
 use Rattle.operations.specs.Writes.{alu_writes, result_writes}
-use borrow.Author.Rules.{rules}
 use Rattle.operations.proofs.arithmetic.operate.Goals as goal
 
 pub returns-in-Add : goal.returns-in-Add

@@ -1,7 +1,6 @@
 use Rattle.memory.specs.Write.{writes_applied}
 use borrow.Author.Tests.{eq-eqb, ne_eqb}
 use Rattle.operations.specs.Writes.{arithmetic_writes}
-use borrow.Author.Rules.{rules}
 use Rattle.operations.proofs.arithmetic.store_arithmetic.Goals as goal
 
 pub returns-then-is_set : goal.returns-then-is_set

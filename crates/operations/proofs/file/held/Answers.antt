@@ -1,6 +1,5 @@
 use borrow.Author.Tests.{le-leb, lt-leb}
 use Rattle.operations.specs.Writes.{file_at}
-use borrow.Author.Rules.{rules}
 use Rattle.operations.proofs.file.held.Goals as goal
 
 pub returns-then-rf-ge-DATA : goal.returns-then-rf-ge-DATA

@@ -1,4 +1,3 @@
-use borrow.Author.Rules.{rules}
 use Rattle.operations.proofs.file.peek.Goals as goal
 
 pub returns : goal.returns

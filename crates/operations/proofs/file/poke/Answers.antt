@@ -1,7 +1,6 @@
 use borrow.Author.Tests.{le-leb, lt-leb}
 use Rattle.memory.specs.Write.{writes_applied}
 use Rattle.operations.specs.Writes.{poke_writes}
-use borrow.Author.Rules.{rules}
 use Rattle.operations.proofs.file.poke.Goals as goal
 
 pub returns-then-rf-lt-DATA : goal.returns-then-rf-lt-DATA

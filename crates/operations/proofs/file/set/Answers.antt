@@ -1,7 +1,6 @@
 use native.Mathlib.Omega.{arith}
 use Rattle.operations.specs.Settings.{settings_of}
 use borrow.Author.Tests.{le-leb, lt-leb}
-use borrow.Author.Rules.{rules}
 use Rattle.operations.proofs.file.set.Goals as goal
 
 pub returns-then-rf-ge-DATA : goal.returns-then-rf-ge-DATA

@@ -1,5 +1,4 @@
 use borrow.Author.Tests.{le-leb, lt-leb}
-use borrow.Author.Rules.{rules}
 use Rattle.operations.proofs.operands.file.Goals as goal
 
 pub returns-then-rf-ge-DATA : goal.returns-then-rf-ge-DATA

@@ -2,7 +2,6 @@ use mathlib.Core.Path.{◌∙◌, sym}
 use Rattle.memory.proofs.Numbers.{none_lacking}
 use Rattle.memory.specs.Chip.{chip_of}
 use Rattle.operations.specs.Operands.{lacks_at}
-use borrow.Author.Rules.{rules}
 use Rattle.operations.proofs.operands.lacks.Goals as goal
 
 pub returns-then-is_whole : goal.returns-then-is_whole

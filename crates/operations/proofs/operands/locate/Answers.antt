@@ -1,5 +1,4 @@
 use Rattle.operations.specs.Operands.{address_in, addresses_of}
-use borrow.Author.Rules.{rules}
 use Rattle.operations.proofs.operands.locate.Goals as goal
 
 pub returns-in-AluRegister : goal.returns-in-AluRegister

@@ -1,5 +1,4 @@
 use Rattle.operations.specs.Operands.{address_in}
-use borrow.Author.Rules.{rules}
 use Rattle.operations.proofs.operands.pointer.Goals as goal
 
 pub returns : goal.returns

@@ -1,6 +1,5 @@
 use Rattle.memory.specs.Write.{writes_applied}
 use Rattle.operations.specs.Writes.{skip_writes}
-use borrow.Author.Rules.{rules}
 use Rattle.operations.proofs.others.clear_cmp.Goals as goal
 
 pub returns-in-Skt : goal.returns-in-Skt

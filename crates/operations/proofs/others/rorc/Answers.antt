@@ -1,7 +1,6 @@
 use Rattle.memory.specs.Write.{writes_applied}
 use borrow.Author.Tests.{eq-eqb, ne_eqb}
 use Rattle.operations.specs.Writes.{rotate_writes}
-use borrow.Author.Rules.{rules}
 use Rattle.operations.proofs.others.rorc.Goals as goal
 
 pub returns-then-to-eq-PSW : goal.returns-then-to-eq-PSW

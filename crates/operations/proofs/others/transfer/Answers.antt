@@ -1,6 +1,5 @@
 use Rattle.memory.specs.Write.{writes_applied}
 use Rattle.operations.specs.Writes.{transfer_writes}
-use borrow.Author.Rules.{rules}
 use Rattle.operations.proofs.others.transfer.Goals as goal
 
 pub returns : goal.returns

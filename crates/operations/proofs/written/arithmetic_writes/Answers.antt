@@ -2,7 +2,6 @@ use mathlib.Core.Path.{◌∙◌, refl, sym}
 use mathlib.Core.Bool.{or-false}
 use Rattle.operations.specs.Writes.{arithmetic_writes}
 use Rattle.operations.proofs.Touched.{with_flags}
-use borrow.Author.Rules.{rules}
 use Rattle.operations.proofs.written.arithmetic_writes.Goals as goal
 
 pub returns-then-is_set : goal.returns-then-is_set

@@ -6,7 +6,6 @@ use Rattle.memory.specs.Registers.{ar_writes, buffer_writes, increment_ix}
 use Rattle.memory.specs.Write.{touches}
 use Rattle.operations.specs.Writes.{from_to, writes_at}
 use Rattle.operations.proofs.Touched.{agree}
-use borrow.Author.Rules.{rules}
 use Rattle.operations.proofs.written.fixed_writes.Goals as goal
 
 pub returns-in-IncAr : goal.returns-in-IncAr

@@ -1,7 +1,6 @@
 use mathlib.Core.Path.{sym}
 use mathlib.Core.Bool.{or-false}
 use Rattle.operations.specs.Writes.{skip_writes}
-use borrow.Author.Rules.{rules}
 use Rattle.operations.proofs.written.skip_writes.Goals as goal
 
 pub returns-in-Skt : goal.returns-in-Skt

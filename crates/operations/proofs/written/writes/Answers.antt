@@ -6,7 +6,6 @@ use Rattle.memory.specs.Registers.{low_byte_writes}
 use Rattle.memory.specs.Write.{touches}
 use Rattle.operations.specs.Writes.{alu_writes, from_to, rotate_writes, transfer_writes, writes_at, writes_of}
 use Rattle.operations.proofs.Touched.{agree, with_flags}
-use borrow.Author.Rules.{rules}
 use Rattle.operations.proofs.written.writes.Goals as goal
 
 pub returns-in-AluRegister : goal.returns-in-AluRegister

@@ -1,4 +1,4 @@
-use Rattle.std.proofs.Common.{arith, rules}
+use Rattle.std.proofs.Common.{arith}
 use Rattle.peripherals.specs.Timer.{period_of}
 use Rattle.peripherals.proofs.Crossing.{own_clock, pin_clock}
 use Rattle.peripherals.proofs.clock.comes.Goals as goal

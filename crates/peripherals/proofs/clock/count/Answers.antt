@@ -1,4 +1,4 @@
-use Rattle.std.proofs.Common.{rules, eq-eqb, ne_eqb}
+use Rattle.std.proofs.Common.{eq-eqb, ne_eqb}
 use Rattle.peripherals.specs.Timer.{count_of}
 use Rattle.peripherals.proofs.clock.count.Goals as goal
 

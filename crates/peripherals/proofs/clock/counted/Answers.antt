@@ -1,4 +1,4 @@
-use Rattle.std.proofs.Common.{sym, ◌∙◌, rules, ne_eqb}
+use Rattle.std.proofs.Common.{sym, ◌∙◌, ne_eqb}
 use borrow.Author.Tests.{not-true, not-false}
 use Rattle.peripherals.proofs.clock.counted.Goals as goal
 

@@ -1,4 +1,4 @@
-use Rattle.std.proofs.Common.{ap, ◌∙◌, rules, le-leb}
+use Rattle.std.proofs.Common.{ap, ◌∙◌, le-leb}
 use borrow.Author.Tests.{lt-leb}
 use Rattle.peripherals.specs.Pace.{left_of, paced_of, rest_of}
 use Rattle.peripherals.specs.Timer.{tick_of}

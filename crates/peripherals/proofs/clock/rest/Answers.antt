@@ -1,4 +1,4 @@
-use Rattle.std.proofs.Common.{◌≡◌, ◌%◌, get_or, arith, rules, ne_eqb}
+use Rattle.std.proofs.Common.{◌≡◌, ◌%◌, get_or, arith, ne_eqb}
 use Rattle.peripherals.specs.Pace.{rest_in, rest_of}
 use Rattle.peripherals.specs.Timer.{period_of}
 use Rattle.peripherals.proofs.clock.rest.Goals as goal

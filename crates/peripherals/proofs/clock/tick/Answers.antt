@@ -1,4 +1,4 @@
-use Rattle.std.proofs.Common.{refl, rules}
+use Rattle.std.proofs.Common.{refl}
 use Rattle.peripherals.specs.Timer.{tick_of}
 use Rattle.peripherals.proofs.clock.tick.Goals as goal
 

@@ -1,4 +1,3 @@
-use Rattle.std.proofs.Common.{rules}
 use Rattle.peripherals.specs.Directions.{directions_of}
 use Rattle.peripherals.proofs.ports.directions.Goals as goal
 

@@ -1,4 +1,4 @@
-use Rattle.std.proofs.Common.{rules, ne_eqb}
+use Rattle.std.proofs.Common.{ne_eqb}
 use Rattle.peripherals.proofs.ports.with_timer.Goals as goal
 
 pub returns-then-registers-ne0 : goal.returns-then-registers-ne0

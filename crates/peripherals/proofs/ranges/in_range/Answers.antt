@@ -1,6 +1,4 @@
-use Rattle.std.proofs.Common.{◌≡◌, ◌-◌, ◌≤◌, true, refl, arith, rules}
-use Rattle.laws.specs.Every.{every}
-use Rattle.peripherals.specs.Range.{register_in_range}
+use Rattle.std.proofs.Common.{◌≡◌, refl, arith, rules}
 use Rattle.peripherals.proofs.Tests.{one_more, one_fails, out, rest}
 use Rattle.peripherals.proofs.ranges.in_range.Goals as goal
 

@@ -1,7 +1,6 @@
-use Rattle.std.proofs.Common.{◌≡◌, ◌-◌, ◌≤◌, true, refl, arith, rules}
+use Rattle.std.proofs.Common.{◌≡◌, ◌-◌, ◌≤◌, true}
 use Rattle.laws.specs.Every.{every}
 use Rattle.peripherals.specs.Range.{register_in_range}
-use Rattle.peripherals.proofs.Tests.{one_more, one_fails, out, rest}
 use Rattle.peripherals.proofs.ranges.in_range.Given as goal
 
 abbrev pub invariant-loop-at : goal.invariant-loop-at

@@ -1,4 +1,4 @@
-use Rattle.std.proofs.Common.{rules, le-leb}
+use Rattle.std.proofs.Common.{le-leb}
 use borrow.Author.Tests.{lt-leb}
 use Rattle.peripherals.specs.Registers.{in_file}
 use Rattle.peripherals.proofs.registers.in_file.Goals as goal

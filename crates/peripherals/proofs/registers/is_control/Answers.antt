@@ -1,4 +1,3 @@
-use Rattle.std.proofs.Common.{rules}
 use Rattle.peripherals.specs.Registers.{is_control}
 use Rattle.peripherals.specs.Table.{control_registers}
 use Rattle.peripherals.proofs.registers.is_control.Goals as goal

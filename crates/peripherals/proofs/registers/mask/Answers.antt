@@ -1,4 +1,4 @@
-use Rattle.std.proofs.Common.{refl, rules}
+use Rattle.std.proofs.Common.{refl}
 use Rattle.peripherals.specs.Table.{control_registers}
 use Rattle.peripherals.proofs.registers.mask.Goals as goal
 

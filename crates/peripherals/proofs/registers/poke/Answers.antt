@@ -1,4 +1,4 @@
-use Rattle.std.proofs.Common.{ap, ◌∙◌, rules}
+use Rattle.std.proofs.Common.{ap, ◌∙◌}
 use Rattle.peripherals.specs.Registers.{poke_of}
 use Rattle.peripherals.specs.declared.Peripherals.{Peripherals}
 use Rattle.peripherals.proofs.registers.poke.Goals as goal

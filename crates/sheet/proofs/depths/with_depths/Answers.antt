@@ -1,7 +1,7 @@
-use Rattle.std.proofs.Common.{◌≡◌, ◌-◌, ◌≤◌, length, sym, refl, ◌∙◌, add-one, rules}
+use Rattle.std.proofs.Common.{◌≡◌, length, sym, ◌∙◌, add-one, rules}
 use borrow.Author.Tests.{not-true, not-false}
 use Rattle.laws.proofs.Lists.{slice_index_inside}
-use Rattle.sheet.specs.Depths.{nearest_below, with_depths}
+use Rattle.sheet.specs.Depths.{with_depths}
 -- the depths that were passed are those of one entry more
 use Rattle.sheet.proofs.depths.with_depths.Goals as goal
 

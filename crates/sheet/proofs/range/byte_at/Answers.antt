@@ -1,4 +1,4 @@
-use Rattle.std.proofs.Common.{sym, rules}
+use Rattle.std.proofs.Common.{sym}
 use Rattle.laws.proofs.Lists.{slice_index_inside, slice_index_past}
 use Rattle.sheet.proofs.range.byte_at.Goals as goal
 

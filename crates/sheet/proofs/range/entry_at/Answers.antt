@@ -1,4 +1,3 @@
-use Rattle.std.proofs.Common.{rules}
 use Rattle.sheet.specs.Entry.{entry_at}
 use Rattle.sheet.proofs.range.entry_at.Goals as goal
 

@@ -1,4 +1,4 @@
-use Rattle.std.proofs.Common.{sym, ◌∙◌, rules, le-leb}
+use Rattle.std.proofs.Common.{sym, ◌∙◌, le-leb}
 use borrow.Author.Tests.{not-true, not-false, lt-leb}
 use Rattle.sheet.specs.Entry.{holds}
 use Rattle.sheet.proofs.range.has_depth.Goals as goal

@@ -1,4 +1,3 @@
-use Rattle.std.proofs.Common.{rules}
 use Rattle.sheet.specs.Entry.{raised_bytes}
 use Rattle.sheet.proofs.range.raised.Goals as goal
 
