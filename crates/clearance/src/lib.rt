@@ -2,4 +2,3 @@
 // are stated in specs/ and proved in proofs/; there is no code here.
 
 #![tactic(auto)]
-

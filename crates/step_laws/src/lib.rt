@@ -2,4 +2,3 @@
 // code here.
 
 #![tactic(auto)]
-

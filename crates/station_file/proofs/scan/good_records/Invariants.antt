@@ -1,0 +1,15 @@
+use borrow.Author.Rules.{rules}
+use borrow.Author.Tests.{not-false}
+use lib.ListN.{length, drop}
+use mathlib.Core.Path.{◌≡◌}
+use native.Mathlib.Omega.{arith}
+use Prim.Native.Nat.{◌+◌, ◌-◌, ◌%◌, ◌≤◌}
+use Rattle.station_file.specs.Station.{input_byte}
+use Rattle.station_file.proofs.Scanned.{To, none_yet, record_at}
+use Rattle.station_file.proofs.scan.good_records.Given as goal
+
+abbrev pub invariant-loop-index : goal.invariant-loop-index
+invariant-loop-index l = (l.index ≤ l.count) × (l.next ≡ l.at + l.index) × (l.next ≤ length l.bytes) × (l.index % 11 ≡ 0) × To input_byte (drop l.at l.bytes) l.count l.index
+
+abbrev pub decreases-loop-index : goal.decreases-loop-index
+decreases-loop-index l = l.count - l.index
