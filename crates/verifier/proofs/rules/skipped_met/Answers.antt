@@ -1,0 +1,5 @@
+use borrow.Author.Rules.{rules}
+use Rattle.verifier.proofs.rules.skipped_met.Goals as goal
+
+pub returns : goal.returns
+returns c = cc

@@ -1,0 +1,22 @@
+use Prim.Native.Nat.{◌≤◌, ◌-◌}
+use native.Mathlib.Omega.{arith}
+use borrow.Author.Rules.{rules}
+use Rattle.memory.specs.Chip.{chip_of}
+use Rattle.memory.proofs.Numbers.{words_below}
+use borrow.Author.Tests.{not-true, not-false}
+use lib.ListN.{length}
+use Rattle.verifier.proofs.Promised.{promised}
+use Rattle.verifier.proofs.Scan.{of_word, RulesTo, WordsTo, no_rule, no_word, rule_more, word_more, empty, long, unlike, passes, fails}
+use Rattle.verifier.proofs.verification.verify.Given as goal
+
+abbrev pub invariant-rules : goal.invariant-rules
+invariant-rules l = (1 ≤ l.rule) × (l.rule ≤ 7) × RulesTo (chip_of l.model) l.rom l.sheet l.word l.rule
+
+abbrev pub decreases-rules : goal.decreases-rules
+decreases-rules l = 7 - l.rule
+
+abbrev pub invariant-words : goal.invariant-words
+invariant-words l = (l.word ≤ length l.rom) × WordsTo (chip_of l.model) l.rom l.sheet l.word
+
+abbrev pub decreases-words : goal.decreases-words
+decreases-words l = length l.rom - l.word
