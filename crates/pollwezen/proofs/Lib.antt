@@ -1,6 +1,4 @@
 pub mod Places
-pub mod Behind
-pub mod CellsLent
 pub mod Kept
 pub mod Checks
 pub mod RepliesApart
