@@ -8,7 +8,6 @@ use Rattle.machine.specs.Signals.{Signals}
 use Rattle.machine.specs.declared.Machine.{Machine}
 use Rattle.cpu.specs.Answers.{reply_number}
 use Rattle.cpu.specs.Reply.{Reply, done, in_standby, refused, Step}
-use Rattle.cpu.specs.Step.{step_of}
 use Rattle.step_laws.proofs.Steps.{step_laws}
 use Rattle.pollwezen.specs.Lent.{lent_step_of}
 use Rattle.pollwezen.specs.Models.{step_on}

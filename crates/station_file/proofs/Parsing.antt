@@ -9,7 +9,7 @@ use lib.ListN.{length, take, drop, length-drop, drop_of_length-le}
 use lib.Seq.{drop-cons, drop-drop}
 use borrow.Author.Tests.{eq-eqb, ne_eqb}
 use Rattle.station_file.specs.Reading.{Reading, got, refused, and_then, tested, number, fields}
-use Rattle.station_file.specs.Station.{Form, Station, word_field, rom_section, sheet_section, input_section, parse_of}
+use Rattle.station_file.specs.Station.{Form, word_field, rom_section, sheet_section, input_section, parse_of}
 use Rattle.station_file.specs.Answers.{file_number}
 use Rattle.station_file.specs.Places.{words as words_of, form_section, after_form, number_in, NumberFits, OpeningFits, scanned, ScanFits, words_in, bytes_in, SectionFits, refusal_in, station_in}
 use Rattle.station_file.specs.declared.FileRefusal.{FileRefusal}

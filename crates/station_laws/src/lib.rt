@@ -2,4 +2,3 @@
 // is no code here.
 
 #![tactic(auto)]
-

@@ -25,7 +25,7 @@ use Rattle.machine.specs.Parts.{cells_of, machine_of}
 use Rattle.machine.specs.declared.Control.{Control}
 use Rattle.machine.specs.Signals.{Signals}
 use Rattle.machine.specs.declared.Machine.{Machine}
-use Rattle.control.specs.Control.{Transfer, control_of, top_of}
+use Rattle.control.specs.Control.{control_of, top_of}
 use Rattle.control.specs.Flow.{onward_if, flow_of}
 use Rattle.peripherals.specs.Registers.{in_file}
 use Rattle.peripherals.specs.Table.{TMC, TMM}

@@ -1,7 +1,7 @@
 -- The input record's directions count for refusal 1 alone.
 -- Assumes nothing.
-use mathlib.Core.Path.{◌≡◌, ◌∙◌, ap, ap₂, refl}
-use mathlib.Core.Bool.{◌&&◌, cond}
+use mathlib.Core.Path.{◌≡◌, ap, refl}
+use mathlib.Core.Bool.{cond}
 use mathlib.Core.List.{List}
 use Prim.Native.Nat.{ℕ, zero, suc}
 use lib.Dec.{leb}
@@ -11,14 +11,14 @@ use Rattle.isa.specs.Decode.{decode_of}
 use Rattle.isa.specs.declared.Instruction.{Instruction}
 use Rattle.memory.specs.Chip.{Chip}
 use Rattle.machine.specs.Parts.{is_marked}
-use Rattle.machine.specs.Ranges.{five_nibbles, input_in_range, signals_in_range, all_in_range, budget_in_range}
+use Rattle.machine.specs.Ranges.{five_nibbles, input_in_range, signals_in_range, all_in_range}
 use Rattle.machine.specs.Signals.{Signals}
 use Rattle.machine.specs.declared.Machine.{Machine}
 use Rattle.cpu.specs.Cost.{none, plus, cost_of}
 use Rattle.cpu.specs.Cycles.{next_cycles}
 use Rattle.cpu.specs.Execute.{written_of, transfer_by, execute_of, lacks_of}
 use Rattle.cpu.specs.Reply.{Step, refused_step}
-use Rattle.cpu.specs.Run.{Run, after_step, ended, run_from, run_of}
+use Rattle.cpu.specs.Run.{run_from, run_of}
 use Rattle.cpu.specs.Step.{woken, ticked_by, stood_by, unless_refused, decoded_of, pass_over, fetch_of, waits, advance_of, step_of}
 use Rattle.cpu.specs.Reply.{standing_step}
 use Rattle.cpu.specs.declared.Count.{Count}

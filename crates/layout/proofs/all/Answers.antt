@@ -1,5 +1,4 @@
 use mathlib.Core.List.{[], ◌∷◌}
-use borrow.Author.Rules.{rules}
 use Rattle.layout.specs.Laid.{laid_of}
 use Rattle.layout.proofs.all.Goals as goal
 

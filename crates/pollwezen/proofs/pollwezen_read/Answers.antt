@@ -1,7 +1,6 @@
 use mathlib.Core.Path.{◌∙◌, ap}
 use Rattle.station_file.specs.Read.{Read}
 use Rattle.pollwezen.specs.Replies.{read_reply_of}
-use borrow.Author.Rules.{rules}
 use Rattle.pollwezen.proofs.pollwezen_read.Goals as goal
 
 pub returns : goal.returns

@@ -1,7 +1,6 @@
 use mathlib.Core.Path.{◌∙◌, ap}
 use Rattle.transcript.specs.Print.{Print}
 use Rattle.pollwezen.specs.Replies.{print_reply_of}
-use borrow.Author.Rules.{rules}
 use Rattle.pollwezen.proofs.pollwezen_transcript.Goals as goal
 
 pub returns : goal.returns

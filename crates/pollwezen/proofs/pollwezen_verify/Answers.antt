@@ -1,7 +1,6 @@
 use mathlib.Core.Path.{◌∙◌, sym}
 use Rattle.pollwezen.specs.Models.{model_of}
 use Rattle.pollwezen.proofs.Checks.{not_verified, verified}
-use borrow.Author.Rules.{rules}
 use Rattle.pollwezen.proofs.pollwezen_verify.Goals as goal
 
 pub returns-in_default : goal.returns-in_default

@@ -1,7 +1,6 @@
 use mathlib.Core.Path.{◌∙◌, ap}
 use Rattle.station_file.specs.Write.{Write}
 use Rattle.pollwezen.specs.Replies.{write_reply_of}
-use borrow.Author.Rules.{rules}
 use Rattle.pollwezen.proofs.pollwezen_write.Goals as goal
 
 pub returns : goal.returns

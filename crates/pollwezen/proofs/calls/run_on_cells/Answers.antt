@@ -1,6 +1,5 @@
 use mathlib.Core.Path.{◌∙◌, ap, sym}
 use Rattle.pollwezen.specs.Lent.{lent_run_of}
-use borrow.Author.Rules.{rules}
 use Rattle.pollwezen.proofs.calls.run_on_cells.Goals as goal
 
 pub returns-in_default : goal.returns-in_default

@@ -1,4 +1,3 @@
-use borrow.Author.Rules.{rules}
 use Rattle.pollwezen.proofs.replies.of_loaded.Goals as goal
 
 pub returns-in-Station : goal.returns-in-Station

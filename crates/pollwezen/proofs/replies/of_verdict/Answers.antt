@@ -1,4 +1,3 @@
-use borrow.Author.Rules.{rules}
 use Rattle.pollwezen.proofs.replies.of_verdict.Goals as goal
 
 pub returns-in-Pass : goal.returns-in-Pass

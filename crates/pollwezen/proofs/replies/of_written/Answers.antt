@@ -1,4 +1,3 @@
-use borrow.Author.Rules.{rules}
 use Rattle.pollwezen.proofs.replies.of_written.Goals as goal
 
 pub returns-in-Bytes : goal.returns-in-Bytes

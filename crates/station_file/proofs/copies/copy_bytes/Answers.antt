@@ -2,9 +2,9 @@ use borrow.Author.Rules.{rules}
 use Rattle.station_file.proofs.Splices.{splice_none, copied}
 use Rattle.station_file.specs.Places.{splice}
 use lib.ListN.{length-set}
-use lib.ListN.{length, take, drop}
+use lib.ListN.{take, drop}
 use native.Mathlib.Omega.{arith}
-use Prim.Native.Nat.{ℕ, ◌-◌, ◌≤◌}
+use Prim.Native.Nat.{ℕ}
 use mathlib.Core.Path.{◌≡◌, ◌∙◌, ap, refl}
 use Rattle.station_file.proofs.copies.copy_bytes.Goals as goal
 

@@ -1,11 +1,7 @@
-use borrow.Author.Rules.{rules}
-use Rattle.station_file.proofs.Splices.{splice_none, copied}
 use Rattle.station_file.specs.Places.{splice}
-use lib.ListN.{length-set}
 use lib.ListN.{length, take, drop}
-use native.Mathlib.Omega.{arith}
-use Prim.Native.Nat.{ℕ, ◌-◌, ◌≤◌}
-use mathlib.Core.Path.{◌≡◌, ◌∙◌, ap, refl}
+use Prim.Native.Nat.{◌-◌, ◌≤◌}
+use mathlib.Core.Path.{◌≡◌}
 use Rattle.station_file.proofs.copies.copy_bytes.Given as goal
 
 abbrev pub invariant-loop-index : goal.invariant-loop-index

@@ -1,8 +1,8 @@
 use mathlib.Core.Path.{◌≡◌, ◌∙◌, ap, refl}
-use Prim.Native.Nat.{ℕ, ◌*◌, ◌-◌, ◌≤◌}
+use Prim.Native.Nat.{ℕ}
 use native.Mathlib.Omega.{arith}
 use borrow.Author.Rules.{rules}
-use lib.ListN.{length, take, drop, length-set}
+use lib.ListN.{take, drop, length-set}
 use Rattle.station_file.specs.Forms.{doubled}
 use Rattle.station_file.specs.Read.{overlay}
 use Rattle.station_file.proofs.Filled.{entry_filled}

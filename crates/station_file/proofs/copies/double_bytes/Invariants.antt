@@ -1,11 +1,8 @@
-use mathlib.Core.Path.{◌≡◌, ◌∙◌, ap, refl}
-use Prim.Native.Nat.{ℕ, ◌*◌, ◌-◌, ◌≤◌}
-use native.Mathlib.Omega.{arith}
-use borrow.Author.Rules.{rules}
-use lib.ListN.{length, take, drop, length-set}
+use mathlib.Core.Path.{◌≡◌}
+use Prim.Native.Nat.{◌*◌, ◌-◌, ◌≤◌}
+use lib.ListN.{length, take, drop}
 use Rattle.station_file.specs.Forms.{doubled}
 use Rattle.station_file.specs.Read.{overlay}
-use Rattle.station_file.proofs.Filled.{entry_filled}
 use Rattle.station_file.proofs.copies.double_bytes.Given as goal
 
 abbrev pub invariant-loop-index : goal.invariant-loop-index

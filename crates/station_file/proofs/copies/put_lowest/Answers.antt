@@ -3,12 +3,12 @@ use Rattle.station_file.proofs.Packing.{length_lowest, lowest_copied}
 use Rattle.station_file.proofs.Splices.{splice_none}
 use Rattle.station_file.specs.Forms.{lowest_of}
 use Rattle.station_file.specs.Places.{splice}
-use lib.ListN.{length, take, length-set}
+use lib.ListN.{length-set}
 use lib.Seq.{take_all}
 use native.Mathlib.Omega.{arith}
-use Prim.Native.Nat.{ℕ, ◌-◌, ◌≤◌}
+use Prim.Native.Nat.{ℕ}
 use mathlib.Core.List.{List}
-use mathlib.Core.Path.{◌≡◌, ◌∙◌, ap, refl}
+use mathlib.Core.Path.{◌∙◌, ap, refl}
 use Rattle.station_file.proofs.copies.put_lowest.Goals as goal
 
 pub loop-index-init : goal.loop-index-init

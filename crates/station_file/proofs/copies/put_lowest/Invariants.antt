@@ -1,14 +1,8 @@
-use borrow.Author.Rules.{rules}
-use Rattle.station_file.proofs.Packing.{length_lowest, lowest_copied}
-use Rattle.station_file.proofs.Splices.{splice_none}
 use Rattle.station_file.specs.Forms.{lowest_of}
 use Rattle.station_file.specs.Places.{splice}
-use lib.ListN.{length, take, length-set}
-use lib.Seq.{take_all}
-use native.Mathlib.Omega.{arith}
-use Prim.Native.Nat.{ℕ, ◌-◌, ◌≤◌}
-use mathlib.Core.List.{List}
-use mathlib.Core.Path.{◌≡◌, ◌∙◌, ap, refl}
+use lib.ListN.{length, take}
+use Prim.Native.Nat.{◌-◌, ◌≤◌}
+use mathlib.Core.Path.{◌≡◌}
 use Rattle.station_file.proofs.copies.put_lowest.Given as goal
 
 abbrev pub invariant-loop-index : goal.invariant-loop-index

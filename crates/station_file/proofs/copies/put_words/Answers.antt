@@ -5,7 +5,7 @@ use Rattle.station_file.specs.Write.{word_bytes}
 use lib.Seq.{take-length}
 use lib.ListN.{length, take}
 use native.Mathlib.Omega.{arith}
-use Prim.Native.Nat.{ℕ, ◌+◌, ◌*◌, ◌-◌, ◌≤◌}
+use Prim.Native.Nat.{ℕ}
 use mathlib.Core.List.{List}
 use mathlib.Core.Path.{◌≡◌, ◌∙◌, ap, refl}
 use Rattle.station_file.proofs.copies.put_words.Goals as goal

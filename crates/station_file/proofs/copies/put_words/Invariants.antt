@@ -1,13 +1,8 @@
-use borrow.Author.Rules.{rules}
-use Rattle.station_file.proofs.Splices.{splice_none, put_word}
 use Rattle.station_file.specs.Places.{splice}
 use Rattle.station_file.specs.Write.{word_bytes}
-use lib.Seq.{take-length}
 use lib.ListN.{length, take}
-use native.Mathlib.Omega.{arith}
-use Prim.Native.Nat.{ℕ, ◌+◌, ◌*◌, ◌-◌, ◌≤◌}
-use mathlib.Core.List.{List}
-use mathlib.Core.Path.{◌≡◌, ◌∙◌, ap, refl}
+use Prim.Native.Nat.{◌+◌, ◌*◌, ◌-◌, ◌≤◌}
+use mathlib.Core.Path.{◌≡◌}
 use Rattle.station_file.proofs.copies.put_words.Given as goal
 
 abbrev pub invariant-loop-index : goal.invariant-loop-index

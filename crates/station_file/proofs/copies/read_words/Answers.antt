@@ -3,9 +3,9 @@ use Rattle.station_file.proofs.Filled.{word_filled}
 use Rattle.station_file.specs.Places.{words}
 use Rattle.station_file.specs.Read.{overlay}
 use lib.ListN.{length-set}
-use lib.ListN.{length, drop}
+use lib.ListN.{drop}
 use native.Mathlib.Omega.{arith}
-use Prim.Native.Nat.{ℕ, ◌+◌, ◌*◌, ◌-◌, ◌≤◌}
+use Prim.Native.Nat.{ℕ}
 use mathlib.Core.Path.{◌≡◌, ◌∙◌, ap, refl}
 use Rattle.station_file.proofs.copies.read_words.Goals as goal
 

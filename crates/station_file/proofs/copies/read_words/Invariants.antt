@@ -1,12 +1,8 @@
-use borrow.Author.Rules.{rules}
-use Rattle.station_file.proofs.Filled.{word_filled}
 use Rattle.station_file.specs.Places.{words}
 use Rattle.station_file.specs.Read.{overlay}
-use lib.ListN.{length-set}
 use lib.ListN.{length, drop}
-use native.Mathlib.Omega.{arith}
-use Prim.Native.Nat.{ℕ, ◌+◌, ◌*◌, ◌-◌, ◌≤◌}
-use mathlib.Core.Path.{◌≡◌, ◌∙◌, ap, refl}
+use Prim.Native.Nat.{◌+◌, ◌*◌, ◌-◌, ◌≤◌}
+use mathlib.Core.Path.{◌≡◌}
 use Rattle.station_file.proofs.copies.read_words.Given as goal
 
 abbrev pub invariant-loop-index : goal.invariant-loop-index

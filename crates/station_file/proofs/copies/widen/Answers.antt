@@ -1,5 +1,4 @@
 use native.Mathlib.Omega.{arith}
-use borrow.Author.Rules.{rules}
 use Rattle.station_file.proofs.Widened.{too_short, widens}
 use Rattle.station_file.proofs.copies.widen.Goals as goal
 

@@ -1,8 +1,5 @@
-use mathlib.Core.Path.{◌≡◌, ◌∙◌, refl}
-use Prim.Native.Nat.{◌≤◌, ◌-◌}
+use mathlib.Core.Path.{◌∙◌, refl}
 use borrow.Author.Rules.{rules}
-use lib.ListN.{length, drop}
-use Rattle.station_file.specs.Forms.{all_equal}
 use Rattle.station_file.proofs.Packing.{equal_more, equal_stops, equal_ends}
 use Rattle.station_file.proofs.forms.all_equal.Goals as goal
 

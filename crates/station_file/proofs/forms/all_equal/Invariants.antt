@@ -1,9 +1,7 @@
-use mathlib.Core.Path.{◌≡◌, ◌∙◌, refl}
+use mathlib.Core.Path.{◌≡◌}
 use Prim.Native.Nat.{◌≤◌, ◌-◌}
-use borrow.Author.Rules.{rules}
 use lib.ListN.{length, drop}
 use Rattle.station_file.specs.Forms.{all_equal}
-use Rattle.station_file.proofs.Packing.{equal_more, equal_stops, equal_ends}
 use Rattle.station_file.proofs.forms.all_equal.Given as goal
 
 abbrev pub invariant-loop-at : goal.invariant-loop-at

@@ -1,5 +1,4 @@
 use mathlib.Core.Path.{◌∙◌}
-use borrow.Author.Rules.{rules}
 use Rattle.station_file.proofs.FormNumbers.{unnumbered, second, other}
 use Rattle.station_file.proofs.forms.form_of.Goals as goal
 

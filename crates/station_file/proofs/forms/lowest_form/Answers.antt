@@ -1,5 +1,4 @@
 use mathlib.Core.Path.{◌∙◌, sym}
-use borrow.Author.Rules.{rules}
 use Rattle.station_file.proofs.forms.lowest_form.Goals as goal
 
 pub returns-then-all_equal : goal.returns-then-all_equal

@@ -1,14 +1,12 @@
-use mathlib.Core.Path.{◌≡◌, ◌∙◌, refl}
-use mathlib.Core.List.{◌∷◌}
-use Prim.Native.Nat.{◌+◌, ◌-◌, ◌≤◌}
+use mathlib.Core.Path.{◌∙◌, refl}
 use native.Mathlib.Omega.{arith}
 use borrow.Author.Rules.{rules}
 use borrow.Author.Tests.{not-true, not-false}
-use lib.ListN.{length, drop, get_or}
+use lib.ListN.{drop}
 use Rattle.station_file.specs.Station.{entry_byte}
 use Rattle.station_file.specs.Places.{form_of}
 use Rattle.station_file.proofs.EntryBytes.{before_next, tested_as}
-use Rattle.station_file.proofs.Scanned.{To, none_yet, more_at, early_at, bad_at, all_at}
+use Rattle.station_file.proofs.Scanned.{none_yet, more_at, early_at, bad_at, all_at}
 use Rattle.station_file.proofs.scan.entries.Goals as goal
 
 pub loop-index-init : goal.loop-index-init

@@ -1,11 +1,9 @@
 use borrow.Author.Rules.{rules}
 use borrow.Author.Tests.{not-false}
-use lib.ListN.{length, drop}
-use mathlib.Core.Path.{◌≡◌}
+use lib.ListN.{drop}
 use native.Mathlib.Omega.{arith}
-use Prim.Native.Nat.{◌+◌, ◌-◌, ◌%◌, ◌≤◌}
 use Rattle.station_file.specs.Station.{input_byte}
-use Rattle.station_file.proofs.Scanned.{To, none_yet, record_at}
+use Rattle.station_file.proofs.Scanned.{none_yet, record_at}
 use Rattle.station_file.proofs.scan.good_records.Goals as goal
 
 pub loop-index-init : goal.loop-index-init

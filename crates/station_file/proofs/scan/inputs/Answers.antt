@@ -1,11 +1,9 @@
 use borrow.Author.Rules.{rules}
 use Rattle.station_file.specs.Station.{input_byte}
-use Rattle.station_file.proofs.Scanned.{To, more_at, early_at, bad_at, all_at}
+use Rattle.station_file.proofs.Scanned.{more_at, early_at, bad_at, all_at}
 use borrow.Author.Tests.{not-true, not-false}
-use lib.ListN.{length, drop}
 use native.Mathlib.Omega.{arith}
-use Prim.Native.Nat.{◌+◌, ◌-◌, ◌≤◌}
-use mathlib.Core.Path.{◌≡◌, ◌∙◌, sym}
+use mathlib.Core.Path.{◌∙◌, sym}
 use Rattle.station_file.proofs.scan.inputs.Goals as goal
 
 pub loop-index-init : goal.loop-index-init

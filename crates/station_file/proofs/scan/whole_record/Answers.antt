@@ -6,7 +6,7 @@ use mathlib.Core.Path.{◌≡◌, subst, sym}
 use native.Mathlib.Nat.{eq-or-lt_of_le, le_of_suc-le-suc, not-suc-le-zero}
 use native.Mathlib.Numerals.{add-one}
 use native.Mathlib.Omega.{arith}
-use Prim.Native.Nat.{ℕ, ◌+◌, ◌-◌, ◌<◌, ◌≤◌}
+use Prim.Native.Nat.{ℕ, ◌+◌, ◌<◌}
 use Rattle.laws.proofs.Every.{passed}
 use Rattle.station_file.proofs.scan.whole_record.Goals as goal
 

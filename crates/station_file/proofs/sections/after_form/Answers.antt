@@ -1,7 +1,6 @@
 use Rattle.station_file.proofs.Parsing.{rom_fails, sheet_fails, inputs_fail, goes_on, ends, section_fits}
 use Rattle.station_file.specs.Places.{form_of}
 use native.Mathlib.Omega.{arith}
-use borrow.Author.Rules.{rules}
 use Rattle.station_file.proofs.sections.after_form.Goals as goal
 
 pub returns-in_default : goal.returns-in_default

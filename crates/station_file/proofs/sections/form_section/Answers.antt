@@ -1,6 +1,5 @@
 use Rattle.station_file.specs.Places.{form_of}
 use Rattle.station_file.proofs.Parsing.{form_early, form_other, form_same, fits_of}
-use borrow.Author.Rules.{rules}
 use Rattle.station_file.proofs.sections.form_section.Goals as goal
 
 pub returns-in_default : goal.returns-in_default

@@ -1,7 +1,6 @@
 use Rattle.station_file.proofs.Parsing.{form_fails, form_passes, opening_fits}
 use Rattle.station_file.specs.Places.{form_of, opened}
 use mathlib.Core.Path.{◌∙◌, ap, sym}
-use borrow.Author.Rules.{rules}
 use Rattle.station_file.proofs.sections.parse.Goals as goal
 
 pub after_form-requires : goal.after_form-requires

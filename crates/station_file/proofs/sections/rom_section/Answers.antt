@@ -1,6 +1,5 @@
 use mathlib.Core.Path.{◌∙◌, refl, sym}
 use native.Mathlib.Omega.{arith}
-use borrow.Author.Rules.{rules}
 use borrow.Author.Tests.{not-true, not-false}
 use Rattle.station_file.specs.Station.{rom_count, rom_section}
 use Rattle.station_file.proofs.Parsing.{early, miscounted, words_after, words_short, words_whole, fits_of}

@@ -1,7 +1,6 @@
 use Rattle.station_file.proofs.Splices.{put_two}
 use lib.ListN.{length-set}
 use native.Mathlib.Omega.{arith}
-use borrow.Author.Rules.{rules}
 use Rattle.station_file.proofs.two_bytes.put_number.Goals as goal
 
 pub bounds-out-at-2 : goal.bounds-out-at-2

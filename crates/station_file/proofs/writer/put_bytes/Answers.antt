@@ -3,7 +3,6 @@ use Rattle.station_file.specs.Write.{bytes_of}
 use native.Mathlib.Omega.{arith}
 use Prim.Native.Nat.{◌+◌}
 use mathlib.Core.Path.{◌∙◌, refl}
-use borrow.Author.Rules.{rules}
 use Rattle.station_file.proofs.writer.put_bytes.Goals as goal
 
 pub put_number-requires : goal.put_number-requires

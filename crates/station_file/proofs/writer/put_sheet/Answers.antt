@@ -2,7 +2,6 @@ use mathlib.Core.Path.{◌∙◌, refl, sym, ap}
 use mathlib.Core.List.{List, ◌++◌}
 use Prim.Native.Nat.{ℕ, ◌+◌, ◌/◌}
 use native.Mathlib.Omega.{arith}
-use borrow.Author.Rules.{rules}
 use lib.ListN.{length}
 use Rattle.station_file.specs.Forms.{lowest_of}
 use Rattle.station_file.specs.Places.{splice}

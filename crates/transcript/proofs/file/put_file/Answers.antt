@@ -9,7 +9,6 @@ use Rattle.transcript.specs.Text.{newline, file_text, decimal}
 use Rattle.transcript.specs.Transcript.{transcript_of}
 use Rattle.transcript.proofs.Parsed.{Loads, loads, bad}
 use Rattle.transcript.proofs.Puts.{bounded, reworded}
-use borrow.Author.Rules.{rules}
 -- the station stands in the buffers
 use Rattle.transcript.proofs.file.put_file.Goals as goal
 use Rattle.transcript.proofs.file.put_file.Goals.{In-Refused, In-Station}

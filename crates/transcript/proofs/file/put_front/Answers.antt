@@ -1,7 +1,6 @@
 use mathlib.Core.Path.{sym}
 use native.Mathlib.Omega.{arith}
 use lib.Seq.{length-take-le}
-use borrow.Author.Rules.{rules}
 use Rattle.transcript.proofs.file.put_front.Goals as goal
 
 pub slice_bounds-put_station-end : goal.slice_bounds-put_station-end

@@ -1,6 +1,5 @@
 use native.Mathlib.Omega.{arith}
 use Rattle.transcript.proofs.Texts.{too_short, printed_whole}
-use borrow.Author.Rules.{rules}
 use Rattle.transcript.proofs.file.transcript.Goals as goal
 
 pub returns-then-out-ge100000 : goal.returns-then-out-ge100000

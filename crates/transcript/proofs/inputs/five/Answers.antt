@@ -1,5 +1,4 @@
 use Rattle.transcript.proofs.Bytes.{five_of}
-use borrow.Author.Rules.{rules}
 use Rattle.transcript.proofs.inputs.five.Goals as goal
 
 pub returns : goal.returns

@@ -1,5 +1,4 @@
 use Rattle.transcript.proofs.Bytes.{same_input}
-use borrow.Author.Rules.{rules}
 use Rattle.transcript.proofs.inputs.input_at.Goals as goal
 
 pub returns : goal.returns

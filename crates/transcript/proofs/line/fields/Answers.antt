@@ -1,6 +1,5 @@
 use native.Mathlib.Omega.{arith}
 use Rattle.transcript.proofs.Lines.{same_fields_lem}
-use borrow.Author.Rules.{rules}
 use Rattle.transcript.proofs.line.fields.Goals as goal
 
 pub returns : goal.returns

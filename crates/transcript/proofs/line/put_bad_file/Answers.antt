@@ -1,6 +1,5 @@
 use native.Mathlib.Omega.{arith}
 use Rattle.transcript.proofs.Puts.{joined}
-use borrow.Author.Rules.{rules}
 use Rattle.transcript.proofs.line.put_bad_file.Goals as goal
 
 pub returns : goal.returns

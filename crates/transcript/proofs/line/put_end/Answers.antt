@@ -3,7 +3,6 @@ use Rattle.transcript.specs.Text.{decimal, end_text, space}
 use Rattle.transcript.proofs.Lines.{spaced}
 use native.Mathlib.Omega.{arith}
 use Rattle.transcript.proofs.Puts.{joined, reworded}
-use borrow.Author.Rules.{rules}
 use Rattle.transcript.proofs.line.put_end.Goals as goal
 
 pub put-requires : goal.put-requires

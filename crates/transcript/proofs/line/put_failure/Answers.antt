@@ -1,7 +1,6 @@
 use native.Mathlib.Omega.{arith}
 use Rattle.transcript.proofs.Lines.{named_word}
 use Rattle.transcript.proofs.Puts.{joined, reworded}
-use borrow.Author.Rules.{rules}
 use Rattle.transcript.proofs.line.put_failure.Goals as goal
 
 pub returns : goal.returns

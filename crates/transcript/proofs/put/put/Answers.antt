@@ -1,10 +1,9 @@
-use mathlib.Core.Path.{◌≡◌, ◌∙◌, refl, ap}
+use mathlib.Core.Path.{◌∙◌, refl, ap}
 use mathlib.Core.List.{List}
-use Prim.Native.Nat.{ℕ, ◌+◌, ◌≤◌, ◌-◌}
+use Prim.Native.Nat.{ℕ, ◌+◌}
 use native.Mathlib.Omega.{arith}
-use borrow.Author.Rules.{rules}
-use lib.ListN.{length, get_or, set, take}
-use lib.Seq.{sets, length-sets}
+use lib.ListN.{length, get_or, set}
+use lib.Seq.{length-sets}
 use Rattle.transcript.proofs.Puts.{more, finished}
 use Rattle.transcript.proofs.put.put.Goals as goal
 

@@ -1,6 +1,5 @@
 use mathlib.Core.Path.{sym}
 use lib.Seq.{set_out}
-use borrow.Author.Rules.{rules}
 use Rattle.transcript.proofs.put.put_byte.Goals as goal
 
 pub returns-then-out-at : goal.returns-then-out-at

@@ -1,9 +1,8 @@
 use mathlib.Core.Path.{◌≡◌, sym, ap}
-use mathlib.Core.List.{◌++◌, append-nil}
+use mathlib.Core.List.{append-nil}
 use Prim.Native.Nat.{◌-◌, ◌≤◌}
 use lib.Dec.{lit≤}
 use native.Mathlib.Omega.{arith}
-use borrow.Author.Rules.{rules}
 use lib.ListN.{length, drop, take, set, length-set}
 use Rattle.transcript.specs.Text.{decimal}
 use Rattle.transcript.proofs.Decimals.{five_long, one_long, one_longer, digit_more, digit_last}

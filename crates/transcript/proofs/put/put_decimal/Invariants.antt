@@ -1,13 +1,8 @@
-use mathlib.Core.Path.{◌≡◌, sym, ap}
-use mathlib.Core.List.{◌++◌, append-nil}
-use Prim.Native.Nat.{◌-◌, ◌≤◌}
-use lib.Dec.{lit≤}
-use native.Mathlib.Omega.{arith}
-use borrow.Author.Rules.{rules}
-use lib.ListN.{length, drop, take, set, length-set}
+use mathlib.Core.Path.{◌≡◌}
+use mathlib.Core.List.{◌++◌}
+use Prim.Native.Nat.{◌≤◌}
+use lib.ListN.{length, drop}
 use Rattle.transcript.specs.Text.{decimal}
-use Rattle.transcript.proofs.Decimals.{five_long, one_long, one_longer, digit_more, digit_last}
-use Rattle.transcript.proofs.Puts.{bounded, reworded}
 use Rattle.transcript.proofs.put.put_decimal.Given as goal
 
 abbrev pub invariant-loop-rest : goal.invariant-loop-rest

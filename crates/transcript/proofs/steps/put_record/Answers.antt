@@ -11,7 +11,6 @@ use Rattle.transcript.specs.Text.{decimal}
 use Rattle.transcript.proofs.Lines.{line_of_lem}
 use Rattle.transcript.proofs.Puts.{reworded}
 use Rattle.transcript.proofs.Turns.{few, refused_before, recorded, small, steps_so, total_is}
-use borrow.Author.Rules.{rules}
 use Rattle.transcript.proofs.steps.put_record.Goals as goal
 
 pub returns-then-progress-ne0 : goal.returns-then-progress-ne0

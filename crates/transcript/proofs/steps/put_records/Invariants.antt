@@ -1,11 +1,5 @@
-use mathlib.Core.Path.{◌≡◌, ◌∙◌, ap, subst}
-use Prim.Native.Nat.{ℕ, ◌-◌, ◌/◌, ◌≤◌}
-use native.Mathlib.Omega.{arith}
-use borrow.Author.Rules.{rules}
-use lib.ListN.{length}
-use lib.Seq.{length-sets}
+use Prim.Native.Nat.{◌-◌, ◌≤◌}
 use Rattle.transcript.specs.Printing.{RecordedTo}
-use Rattle.transcript.proofs.Turns.{begins, goes_on}
 use Rattle.transcript.proofs.steps.put_records.Given as goal
 
 abbrev pub invariant-loop-k : goal.invariant-loop-k

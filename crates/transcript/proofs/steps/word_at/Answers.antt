@@ -1,6 +1,5 @@
 use mathlib.Core.Path.{sym}
 use lib.ListN.{get_or-eq_default}
-use borrow.Author.Rules.{rules}
 use Rattle.transcript.proofs.steps.word_at.Goals as goal
 
 pub returns-then-rom-at : goal.returns-then-rom-at

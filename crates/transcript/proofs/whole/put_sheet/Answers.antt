@@ -1,7 +1,6 @@
 use native.Mathlib.Omega.{arith}
 use Rattle.verifier.specs.Verdict as verdict
 use Rattle.transcript.proofs.Texts.{no_sheet, checked}
-use borrow.Author.Rules.{rules}
 use Rattle.transcript.proofs.whole.put_sheet.Goals as goal
 
 pub returns-then-sheet-eq0 : goal.returns-then-sheet-eq0

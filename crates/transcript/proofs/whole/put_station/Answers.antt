@@ -1,7 +1,6 @@
 use mathlib.Core.List.{[]}
 use native.Mathlib.Omega.{arith}
 use Rattle.transcript.proofs.Texts.{whole}
-use borrow.Author.Rules.{rules}
 use Rattle.transcript.proofs.whole.put_station.Goals as goal
 
 pub put_records-progress-requires : goal.put_records-progress-requires

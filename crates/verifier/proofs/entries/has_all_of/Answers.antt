@@ -1,4 +1,3 @@
-use borrow.Author.Rules.{rules}
 use Rattle.verifier.proofs.entries.has_all_of.Goals as goal
 
 pub returns : goal.returns

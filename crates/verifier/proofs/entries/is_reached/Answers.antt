@@ -1,4 +1,3 @@
-use borrow.Author.Rules.{rules}
 use Rattle.verifier.proofs.entries.is_reached.Goals as goal
 
 pub returns : goal.returns

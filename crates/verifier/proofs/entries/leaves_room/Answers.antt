@@ -1,5 +1,3 @@
-use Rattle.memory.proofs.Numbers.{some_level}
-use borrow.Author.Rules.{rules}
 use Rattle.verifier.proofs.entries.leaves_room.Goals as goal
 
 pub returns : goal.returns

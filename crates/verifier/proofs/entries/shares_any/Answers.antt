@@ -1,4 +1,3 @@
-use borrow.Author.Rules.{rules}
 use Rattle.verifier.proofs.entries.shares_any.Goals as goal
 
 pub returns : goal.returns

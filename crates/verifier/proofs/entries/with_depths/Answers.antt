@@ -1,4 +1,3 @@
-use borrow.Author.Rules.{rules}
 use Rattle.verifier.proofs.entries.with_depths.Goals as goal
 
 pub returns : goal.returns

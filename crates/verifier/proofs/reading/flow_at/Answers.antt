@@ -1,5 +1,4 @@
 use mathlib.Core.Path.{◌∙◌, ap, sym}
-use borrow.Author.Rules.{rules}
 use Rattle.isa.specs.Decode.{decode_of, entry_of, overview, columns}
 use Rattle.laws.proofs.Lists.{slice_index_inside, slice_index_past}
 use Rattle.control.specs.Flow.{word_flow}

@@ -4,7 +4,6 @@ use Rattle.memory.specs.Chip.{chip_of}
 use Rattle.sheet.specs.Entry.{covers}
 use Rattle.sheet.specs.declared.Entry.{Entry}
 use Rattle.clearance.specs.Rules.{met}
-use borrow.Author.Rules.{rules}
 use Rattle.verifier.proofs.reading.is_met.Goals as goal
 
 pub returns-then-rom-word : goal.returns-then-rom-word

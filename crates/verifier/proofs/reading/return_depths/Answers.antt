@@ -1,14 +1,11 @@
-use mathlib.Core.Path.{◌≡◌, ◌∙◌, ap, refl, sym}
-use mathlib.Core.Logic.{⊎_elim}
-use Prim.Native.Nat.{◌≤◌, ◌-◌}
+use mathlib.Core.Path.{◌∙◌, ap, refl, sym}
 use native.Mathlib.Omega.{arith}
-use lib.ListN.{length}
 use borrow.Author.Rules.{rules}
 use Rattle.memory.specs.Chip.{chip_of}
 use Rattle.memory.proofs.Numbers.{levels_fit}
 use Rattle.sheet.specs.Depths.{with_depths}
 use Rattle.sheet.proofs.Tables.{length_table}
-use Rattle.verifier.proofs.Depths.{Seen, none_yet, passed_by, added, all_seen}
+use Rattle.verifier.proofs.Depths.{none_yet, passed_by, added, all_seen}
 use Rattle.verifier.proofs.reading.return_depths.Goals as goal
 use Rattle.verifier.proofs.reading.return_depths.Goals.{then-return_skip_at, else-return_skip_at}
 

@@ -1,6 +1,5 @@
 use mathlib.Core.Path.{◌∙◌, ap, sym}
 use Prim.Native.Nat.{ℕ}
-use borrow.Author.Rules.{rules}
 use Rattle.isa.specs.Decode.{decode_of, entry_of, overview, columns}
 use Rattle.laws.proofs.Lists.{slice_index_inside, slice_index_past}
 use Rattle.control.specs.Flow.{word_flow}

@@ -6,7 +6,6 @@ use Rattle.memory.proofs.Numbers.{levels_fit, some_level}
 use borrow.Author.Tests.{not-true, not-false}
 use Rattle.sheet.proofs.Entries.{raised_bytes_lem}
 use Rattle.verifier.specs.ReturnDepths.{ReturnDepths}
-use borrow.Author.Rules.{rules}
 use Rattle.verifier.proofs.rules.call_allowed.Goals as goal
 
 pub returns-then-not-leaves_room : goal.returns-then-not-leaves_room

@@ -1,6 +1,5 @@
 use borrow.Author.Tests.{eq-eqb, ne_eqb}
 use Rattle.clearance.specs.Rules.{rule1}
-use borrow.Author.Rules.{rules}
 use Rattle.verifier.proofs.rules.rule_1.Goals as goal
 
 pub returns-then-word-ne0 : goal.returns-then-word-ne0

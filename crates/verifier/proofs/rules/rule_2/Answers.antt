@@ -1,5 +1,4 @@
 use Rattle.clearance.specs.Rules.{rule2}
-use borrow.Author.Rules.{rules}
 use Rattle.verifier.proofs.rules.rule_2.Goals as goal
 
 pub returns : goal.returns

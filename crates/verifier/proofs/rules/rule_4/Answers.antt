@@ -1,6 +1,5 @@
 use mathlib.Core.Path.{sym}
 use mathlib.Core.Bool.{and-true}
-use borrow.Author.Rules.{rules}
 use Rattle.verifier.proofs.rules.rule_4.Goals as goal
 
 pub returns-in-Onward : goal.returns-in-Onward

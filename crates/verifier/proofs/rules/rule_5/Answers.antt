@@ -1,5 +1,4 @@
 use borrow.Enum.Refused.{opened}
-use borrow.Author.Rules.{rules}
 use Rattle.memory.specs.Chip.{chip_of}
 use Rattle.verifier.proofs.OtherFlows.{no_call}
 use Rattle.verifier.proofs.rules.rule_5.Goals as goal

@@ -1,5 +1,4 @@
 use borrow.Enum.Refused.{opened}
-use borrow.Author.Rules.{rules}
 use Rattle.verifier.proofs.OtherFlows.{no_return}
 use Rattle.verifier.proofs.rules.rule_6.Goals as goal
 

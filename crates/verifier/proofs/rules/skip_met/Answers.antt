@@ -1,7 +1,6 @@
 use mathlib.Core.Path.{◌∙◌, sym}
 use borrow.Author.Tests.{not-true, not-false}
 use mathlib.Core.Bool.{and-true}
-use borrow.Author.Rules.{rules}
 use Rattle.verifier.proofs.rules.skip_met.Goals as goal
 
 pub returns-then-not-is_met : goal.returns-then-not-is_met

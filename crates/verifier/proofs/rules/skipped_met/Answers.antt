@@ -1,4 +1,3 @@
-use borrow.Author.Rules.{rules}
 use Rattle.verifier.proofs.rules.skipped_met.Goals as goal
 
 pub returns : goal.returns

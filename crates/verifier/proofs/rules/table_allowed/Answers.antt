@@ -1,5 +1,4 @@
 use borrow.Author.Tests.{eq-eqb, ne_eqb}
-use borrow.Author.Rules.{rules}
 use Rattle.verifier.proofs.rules.table_allowed.Goals as goal
 
 pub returns-then-rom-ne1024 : goal.returns-then-rom-ne1024

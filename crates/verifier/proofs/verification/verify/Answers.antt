@@ -1,12 +1,9 @@
-use Prim.Native.Nat.{◌≤◌, ◌-◌}
 use native.Mathlib.Omega.{arith}
 use borrow.Author.Rules.{rules}
-use Rattle.memory.specs.Chip.{chip_of}
 use Rattle.memory.proofs.Numbers.{words_below}
 use borrow.Author.Tests.{not-true, not-false}
-use lib.ListN.{length}
 use Rattle.verifier.proofs.Promised.{promised}
-use Rattle.verifier.proofs.Scan.{of_word, RulesTo, WordsTo, no_rule, no_word, rule_more, word_more, empty, long, unlike, passes, fails}
+use Rattle.verifier.proofs.Scan.{of_word, no_rule, no_word, rule_more, word_more, empty, long, unlike, passes, fails}
 use Rattle.verifier.proofs.verification.verify.Goals as goal
 
 pub returns-then-rom-eq0 : goal.returns-then-rom-eq0

@@ -1,12 +1,7 @@
 use Prim.Native.Nat.{◌≤◌, ◌-◌}
-use native.Mathlib.Omega.{arith}
-use borrow.Author.Rules.{rules}
 use Rattle.memory.specs.Chip.{chip_of}
-use Rattle.memory.proofs.Numbers.{words_below}
-use borrow.Author.Tests.{not-true, not-false}
 use lib.ListN.{length}
-use Rattle.verifier.proofs.Promised.{promised}
-use Rattle.verifier.proofs.Scan.{of_word, RulesTo, WordsTo, no_rule, no_word, rule_more, word_more, empty, long, unlike, passes, fails}
+use Rattle.verifier.proofs.Scan.{RulesTo, WordsTo}
 use Rattle.verifier.proofs.verification.verify.Given as goal
 
 abbrev pub invariant-rules : goal.invariant-rules
