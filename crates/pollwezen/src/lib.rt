@@ -120,8 +120,8 @@ pub extern "C" fn pollwezen_step(
     input: Input,
     pulse: u8,
 ) -> u8
-    ensures { (lent_step machine.new result ≡ lent_step_of (step_on (model_of model) rom.now (signals input pulse) machine.old))
-        × ((result ≡ 0 → ⊥) → (result ≡ 255 → ⊥) → machine.new ≡ machine.old) }
+    ensures value { lent_step machine.new result ≡ lent_step_of (step_on (model_of model) rom.now (signals input pulse) machine.old) }
+    ensures kept { (result ≡ 0 → ⊥) → (result ≡ 255 → ⊥) → machine.new ≡ machine.old }
 {
     let s = step_on_cells(
         model,
