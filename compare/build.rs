@@ -1,4 +1,4 @@
-//! Links libpollwezen.a and liblayout.a, which `rt staticlib` writes, from the
+//! Links libpollwezen.a and liblayout.a, which tools/staticlib writes, from the
 //! folder in POLLWEZEN_LIB or from ../target/staticlib.
 
 use std::env;
@@ -13,7 +13,7 @@ fn main() {
     println!("cargo:rustc-link-search=native={}", folder.display());
     for name in ["pollwezen", "layout"] {
         let library = folder.join(format!("lib{name}.a"));
-        assert!(library.is_file(), "{} is missing: run rt staticlib {name}", library.display());
+        assert!(library.is_file(), "{} is missing: run tools/staticlib", library.display());
         println!("cargo:rustc-link-lib=static={name}");
         println!("cargo:rerun-if-changed={}", library.display());
     }

@@ -1,5 +1,5 @@
-/* Pollwezen: the uPD17132 and the uPD17120 for a host program in C. Link libpollwezen.a, which `rt staticlib pollwezen` writes.
- * The contracts are in crates/pollwezen/src/lib.rt; the definitions that they cite in the folders specs of crates/memory,
+/* Pollwezen: the uPD17132 and the uPD17120 for a host program in C. Link libpollwezen.a, which tools/staticlib writes.
+ * The contracts are in crates/pollwezen_c/src/lib.rt; the definitions that they cite in the folders specs of crates/memory,
  * crates/peripherals, crates/machine and crates/cpu (record, step, run), crates/sheet, crates/clearance and crates/verifier (the
  * check), crates/listing (words), crates/station_file, crates/transcript and crates/pollwezen.
  * The caller keeps what C asks of any call: pointers to as many elements as said, and a lent record or buffer that no other

@@ -177,8 +177,7 @@ fn all() -> Laid
 }
 
 // Fills the lent structs.
-#[unsafe(no_mangle)]
-pub extern "C" fn layout_fill(lent: &mut Laid)
+pub fn layout_fill(lent: &mut Laid)
     ensures { lent.new ≡ laid_of }
 {
     *lent = all();

@@ -1,6 +1,5 @@
-// The C interface, include/pollwezen.h: all its entries. Records and inputs are plain structs of unsigned integers, and answers
-// are numbers. The entries on a lent record are the forms in place of the step and the run. A slice here is a pointer and a
-// length in C; that the two fit is tested by tests/.
+// What the C interface, include/pollwezen.h, offers: all its entries, which `pollwezen_c` exports. Records and inputs are plain structs
+// of unsigned integers, and answers are numbers. The entries on a lent record are the forms in place of the step and the run.
 
 #![tactic(auto)]
 
@@ -101,8 +100,7 @@ struct RunLeft {
 }
 
 // The reset record of a model, written over the lent one: 0, or 1 for a number that is no model's, and then the record stays.
-#[unsafe(no_mangle)]
-pub extern "C" fn pollwezen_reset(model: u8, machine: &mut Machine) -> u8
+pub fn pollwezen_reset(model: u8, machine: &mut Machine) -> u8
     ensures { lent_step machine.new result ≡ lent_step_of (reset_on (model_of model) machine.old) }
 {
     let r = reset_by_value(model, *machine);
@@ -112,14 +110,7 @@ pub extern "C" fn pollwezen_reset(model: u8, machine: &mut Machine) -> u8
 
 // One step of a model on the lent record, with the pulse bit beside its inputs: 0 for a completed step, 255 for one that stays in standby, else
 // the refusal.
-#[unsafe(no_mangle)]
-pub extern "C" fn pollwezen_step(
-    model: u8,
-    rom: &[u16],
-    machine: &mut Machine,
-    input: Input,
-    pulse: u8,
-) -> u8
+pub fn pollwezen_step(model: u8, rom: &[u16], machine: &mut Machine, input: Input, pulse: u8) -> u8
     ensures value { lent_step machine.new result ≡ lent_step_of (step_on (model_of model) rom.now (signals input pulse) machine.old) }
     ensures kept { (result ≡ 0 → ⊥) → (result ≡ 255 → ⊥) → machine.new ≡ machine.old }
 {
@@ -138,8 +129,7 @@ pub extern "C" fn pollwezen_step(
 }
 
 // The counted run of a model on the lent record.
-#[unsafe(no_mangle)]
-pub extern "C" fn pollwezen_run(
+pub fn pollwezen_run(
     model: u8,
     rom: &[u16],
     machine: &mut Machine,
@@ -165,8 +155,7 @@ pub extern "C" fn pollwezen_run(
 }
 
 // The check of a ROM and its sheet, two bytes a word, for a model. The last promise is demand 3 on that model, of these entries too.
-#[unsafe(no_mangle)]
-pub extern "C" fn pollwezen_verify(model: u8, rom: &[u16], sheet: &[u8]) -> VerdictReply
+pub fn pollwezen_verify(model: u8, rom: &[u16], sheet: &[u8]) -> VerdictReply
     ensures verdict { result ≡ verdict_reply_of (verify_on (model_of model) rom.now sheet.now) }
     ensures clear { (result.number ≡ 0) ↔ ClearOn (model_of model) rom.now sheet.now }
     ensures safe { result.number ≡ 0 → SafeOn (model_of model) rom.now sheet.now }
@@ -178,24 +167,21 @@ pub extern "C" fn pollwezen_verify(model: u8, rom: &[u16], sheet: &[u8]) -> Verd
 }
 
 // A word's row in the manual's list and its operands, or 3.
-#[unsafe(no_mangle)]
-pub extern "C" fn pollwezen_decode(word: u16) -> DecodedRow
+pub fn pollwezen_decode(word: u16) -> DecodedRow
     ensures { result ≡ decoded_row_of word }
 {
     listing::decode(word)
 }
 
 // The word of a row with its operands, or 1 or 10.
-#[unsafe(no_mangle)]
-pub extern "C" fn pollwezen_encode(row: u8, first: u8, second: u8, addr: u16) -> EncodedRow
+pub fn pollwezen_encode(row: u8, first: u8, second: u8, addr: u16) -> EncodedRow
     ensures { result ≡ encoded_row_of row (fields first second addr) }
 {
     listing::encode(row, first, second, addr)
 }
 
 // Reads a station file into the lent buffers. A refused file writes nothing.
-#[unsafe(no_mangle)]
-pub extern "C" fn pollwezen_read(
+pub fn pollwezen_read(
     file: &[u8],
     rom: &mut [u16],
     sheet: &mut [u8],
@@ -209,13 +195,7 @@ pub extern "C" fn pollwezen_read(
 }
 
 // Writes a station's file to the front of the lent buffer. A refused station writes nothing.
-#[unsafe(no_mangle)]
-pub extern "C" fn pollwezen_write(
-    rom: &[u16],
-    sheet: &[u8],
-    inputs: &[u8],
-    out: &mut [u8],
-) -> OutputReply
+pub fn pollwezen_write(rom: &[u16], sheet: &[u8], inputs: &[u8], out: &mut [u8]) -> OutputReply
     ensures reply { result ≡ write_reply_of (write_of (station_of rom.now sheet.now inputs.now) out.old).reply }
     ensures written { out.new ≡ (write_of (station_of rom.now sheet.now inputs.now) out.old).out }
 {
@@ -223,8 +203,7 @@ pub extern "C" fn pollwezen_write(
 }
 
 // Makes a sheet of single levels into one of ranges, at the front of the lent buffer. One that is too short stays as it is.
-#[unsafe(no_mangle)]
-pub extern "C" fn pollwezen_widen(levels: &[u8], out: &mut [u8]) -> OutputReply
+pub fn pollwezen_widen(levels: &[u8], out: &mut [u8]) -> OutputReply
     ensures reply { result ≡ write_reply_of (widen_of levels.now out.old).reply }
     ensures written { out.new ≡ (widen_of levels.now out.old).out }
 {
@@ -233,8 +212,7 @@ pub extern "C" fn pollwezen_widen(levels: &[u8], out: &mut [u8]) -> OutputReply
 
 // Puts what `station` prints for a file to the front of the lent buffer. One that is too short stays as it is; one of
 // 100,000 bytes never is.
-#[unsafe(no_mangle)]
-pub extern "C" fn pollwezen_transcript(file: &[u8], out: &mut [u8]) -> OutputReply
+pub fn pollwezen_transcript(file: &[u8], out: &mut [u8]) -> OutputReply
     ensures reply { result ≡ print_reply_of (print_of file.now out.old).reply }
     ensures written { out.new ≡ (print_of file.now out.old).out }
     ensures never_longer { length (transcript_of file.now) ≤ 100000 }
