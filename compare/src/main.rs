@@ -135,7 +135,7 @@ fn agree(arguments: &Arguments) -> bool {
 }
 
 fn arguments() -> Result<Arguments, String> {
-    let beside = concat!(env!("CARGO_MANIFEST_DIR"), "/../target/bin/station");
+    let beside = concat!(env!("CARGO_MANIFEST_DIR"), "/../crates/station/out/station");
     let mut found =
         Arguments { seed: SEED, times: 1, station: PathBuf::from(beside), plant: Plant::None };
     let mut given = std::env::args().skip(1);
