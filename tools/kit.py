@@ -9,7 +9,6 @@ import sys
 
 def load():
     """Returns rt as a module, with what it keeps shared among the checkouts of this machine, as its own commands have it."""
-    sys.dont_write_bytecode = True
     file = os.path.realpath(shutil.which("rt") or sys.exit("there is no rt to be run"))
     loader = importlib.machinery.SourceFileLoader("rt", file)
     made = importlib.util.module_from_spec(importlib.util.spec_from_loader("rt", loader))
