@@ -3,23 +3,24 @@
 #![tactic(auto)]
 
 use memory::{Memory, Model};
+use std::io;
 
-fn show(name: &[u8], n: u16) {
-    io::write_all(1, name);
-    io::write_all(1, &text::hex4(n));
-    io::write_all(1, b"\n");
+fn show(rt: &impl Print, name: &[u8], n: u16) -> io::Result<()> {
+    rt.write_all(name)?;
+    rt.write_all(&text::hex4(n))?;
+    rt.write_all(b"\n")
 }
 
-fn show_buffer(memory: Memory) {
+fn show_buffer(rt: &impl Print, memory: Memory) -> io::Result<()> {
     let before = memory.cells;
     let cells = memory::write_buffer(Model::Upd17132, before, 0xABCD);
-    show(b"data buffer ", memory::buffer(&cells));
+    show(rt, b"data buffer ", memory::buffer(&cells))
 }
 
-fn main() {
-    show(b"P0A ", Memory::P0A as u16);
-    show(b"P0B ", Memory::P0B as u16);
-    show(b"P0C ", Memory::P0C as u16);
-    show(b"WR ", Memory::WR as u16);
-    show_buffer(Memory::reset());
+fn main(rt: HostRuntime) -> io::Result<()> {
+    show(&rt, b"P0A ", Memory::P0A as u16)?;
+    show(&rt, b"P0B ", Memory::P0B as u16)?;
+    show(&rt, b"P0C ", Memory::P0C as u16)?;
+    show(&rt, b"WR ", Memory::WR as u16)?;
+    show_buffer(&rt, Memory::reset())
 }
