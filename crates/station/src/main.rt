@@ -3,14 +3,15 @@
 #![tactic(auto)]
 
 ghost use Rattle.std.specs.Prelude.{◌≡◌, ◌≤◌, length, take};
-ghost use Rattle.io.specs.Counts.{IsPrefixLen};
+ghost use Rattle.station.specs.Counts.{IsPrefixLen};
 ghost use Rattle.transcript.specs.Transcript.{transcript_of};
 
-use libc::{STDERR_FILENO, STDIN_FILENO, STDOUT_FILENO};
+use std::io;
 use streams::Received;
 use transcript::Printed;
 
 // Puts the file's text at the front of a buffer that is never too short, and answers its length.
+#[tactic(auto, unfolding(transcript::specs::Print::print_of))]
 fn put_text(file: &[u8], text: &mut [u8]) -> usize
     requires { 100000 ≤ length text.old }
     ensures prefix_len { IsPrefixLen result text.new }
@@ -22,29 +23,25 @@ fn put_text(file: &[u8], text: &mut [u8]) -> usize
     length
 }
 
-// Says how much of the text is lost. There is no exit status to say it by.
-fn report_loss(taken: usize, length: usize) {
-    io::write_all(STDERR_FILENO, b"station: standard output took ");
-    io::print_decimal(STDERR_FILENO, taken as u64);
-    io::write_all(STDERR_FILENO, b" of ");
-    io::print_decimal(STDERR_FILENO, length as u64);
-    io::write_all(STDERR_FILENO, b" bytes\n");
+// Says how much of the text is lost. The exit status stays 0.
+fn report_loss(rt: &impl Eprint, taken: usize, length: usize) {
+    let _ = eprintln!(rt; "station: standard output took {taken} of {length} bytes");
 }
 
-fn show(text: &[u8]) {
-    let taken = streams::write_all(STDOUT_FILENO, text);
+fn show(rt: &(impl Print + Eprint), text: &[u8]) {
+    let taken = streams::write_all(&mut io::writer(rt), text);
     if taken < text.len() {
-        report_loss(taken, text.len());
+        report_loss(rt, taken, text.len());
     }
 }
 
-fn main() {
+fn main(rt: HostRuntime) {
     let mut file = streams::file_buffer();
-    let Received::Bytes(n) = streams::read_all(STDIN_FILENO, &mut file) else {
-        io::write_all(STDERR_FILENO, b"station: standard input cannot be read\n");
+    let Received::Bytes(n) = streams::read_all(&mut rt.stdin(), &mut file) else {
+        let _ = eprintln!(rt; "station: standard input cannot be read");
         return;
     };
     let mut text = [0u8; 100000];
     let length = put_text(&file[..n], &mut text);
-    show(&text[..length]);
+    show(&rt, &text[..length]);
 }

@@ -1,4 +1,4 @@
-// A buffer filled from a descriptor, and bytes written to one, up to the end or the first fault.
+// A buffer filled from a reader, and bytes written to a writer, up to the end or the first fault.
 
 #![tactic(auto)]
 

@@ -3,8 +3,9 @@ ghost use Rattle.std.specs.Prelude.{◌≡◌, ◌+◌, ◌<◌, length, take};
 ghost use Rattle.station_file.specs.Station.{longest};
 ghost use Rattle.streams.specs.Meaning.{Means, InRoom};
 
-use crate::answer::interpret;
+use crate::answer::{count_moved, interpret};
 use crate::{Meaning, Received};
+use std::io::Read;
 
 const FILE_ROOM: usize = 49150;
 
@@ -16,23 +17,23 @@ pub fn file_buffer() -> [u8; FILE_ROOM]
 }
 
 // One read, of the bytes from a place on.
-fn read_some(fd: i32, buffer: &mut [u8], at: usize) -> Meaning
+fn read_some<R: Read>(input: &mut R, buffer: &mut [u8], at: usize) -> Meaning
     requires { at < length buffer.old }
     ensures means { Means at (length buffer.old) result }
     ensures buffer_unchanged { take at buffer.new ≡ take at buffer.old }
 {
     let room = buffer.len();
-    let got = libc::read(fd, &mut buffer[at..]);
+    let got = count_moved(input.read(&mut buffer[at..]));
     interpret(got, at, room)
 }
 
 // Reads until the buffer is full, the input ends or a read fails.
-pub fn read_all(fd: i32, buffer: &mut [u8]) -> Received
+pub fn read_all<R: Read>(input: &mut R, buffer: &mut [u8]) -> Received
     ensures { InRoom result (length buffer.new) }
 {
     let mut at: usize = 0;
     while at < buffer.len() {
-        match read_some(fd, buffer, at) {
+        match read_some(input, buffer, at) {
             Meaning::Further(next) => {
                 at = next;
             }

@@ -3,23 +3,24 @@ ghost use Rattle.std.specs.Prelude.{◌<◌, ◌≤◌, length};
 ghost use Rattle.streams.specs.Meaning.{Means};
 
 use crate::Meaning;
-use crate::answer::interpret;
+use crate::answer::{count_moved, interpret};
+use std::io::Write;
 
 // One write, of the bytes from a place on.
-fn write_some(fd: i32, bytes: &[u8], at: usize) -> Meaning
+fn write_some<W: Write>(output: &mut W, bytes: &[u8], at: usize) -> Meaning
     requires { at < length bytes.now }
     ensures { Means at (length bytes.now) result }
 {
-    interpret(libc::write(fd, &bytes[at..]), at, bytes.len())
+    interpret(count_moved(output.write(&bytes[at..])), at, bytes.len())
 }
 
 // Writes until all is written, or a write fails or takes nothing, and answers how many bytes went out.
-pub fn write_all(fd: i32, bytes: &[u8]) -> usize
+pub fn write_all<W: Write>(output: &mut W, bytes: &[u8]) -> usize
     ensures { result ≤ length bytes.now }
 {
     let mut at: usize = 0;
     while at < bytes.len() {
-        match write_some(fd, bytes, at) {
+        match write_some(output, bytes, at) {
             Meaning::Further(next) => {
                 at = next;
             }
