@@ -1,6 +1,7 @@
 -- What the answers of `read` and `write` mean: POSIX, "Return value" of each.
 -- Assumes nothing.
-use Rattle.std.specs.Prelude.{◌≡◌, cond, ℕ, ◌+◌, ◌-◌, ◌≤◌, eqb, ltb, ℤ, pos, negsuc, Result, Ok, Err}
+use Rattle.std.specs.Prelude.{◌≡◌, cond, List, Option, ℕ, ◌<◌, length, take, ◌+◌, ◌-◌, ◌≤◌, eqb, ltb, ℤ, pos, negsuc, Result, Ok, Err}
+use Rattle.std.specs.Io.KnownBytes.{Consumes, IsAtEnd}
 use Rattle.streams.specs.declared.Meaning.{Meaning}
 use Rattle.streams.specs.declared.Meaning.TheVariants as meaning
 use Rattle.streams.specs.declared.Received.{Received}
@@ -24,6 +25,13 @@ meaning_of (pos n) at room =
     (meaning.End at)
     (cond (ltb n (room - at)) (meaning.Further (at + n)) (meaning.Full room))
 
+-- the place up to which the bytes are then moved
+abbrev pub place_of : Meaning → ℕ
+place_of (meaning.Further n) = n
+place_of (meaning.Full n) = n
+place_of (meaning.End n) = n
+place_of (meaning.Failed n) = n
+
 -- what some answer of the system means, of which the kit says only how far it can reach
 pub record Means (at room : ℕ) (r : Meaning) : Type 0 where
   pub answer : ℤ
@@ -34,3 +42,15 @@ pub record Means (at room : ℕ) (r : Meaning) : Type 0 where
 abbrev pub InRoom : Received → ℕ → Type 0
 InRoom (received.Bytes n) room = n ≤ room
 InRoom received.Failed room = Unit {0}
+
+-- of an input whose bytes are known: none is left where the answer is its end
+abbrev pub HasEnded : Option (List ℕ) → Meaning → Type 0
+HasEnded left (meaning.End n) = IsAtEnd left
+HasEnded left (meaning.Further n) = Unit {0}
+HasEnded left (meaning.Full n) = Unit {0}
+HasEnded left (meaning.Failed n) = Unit {0}
+
+-- of an input whose bytes are known: those that were read stand at the front of the buffer, and none is left if there is room for more
+abbrev pub IsRead : Option (List ℕ) → Option (List ℕ) → List ℕ → Received → Type 0
+IsRead old new buffer (received.Bytes n) = Consumes old new (take n buffer) × (n < length buffer → IsAtEnd new)
+IsRead old new buffer received.Failed = Unit {0}

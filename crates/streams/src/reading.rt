@@ -1,7 +1,8 @@
 // An input, into a buffer.
-ghost use Rattle.std.specs.Prelude.{◌≡◌, ◌+◌, ◌<◌, length, take};
+ghost use Rattle.std.specs.Prelude.{◌≡◌, ◌+◌, ◌<◌, length, slice_range, take};
+ghost use Rattle.std.specs.Io.KnownBytes.{Consumes};
 ghost use Rattle.station_file.specs.Station.{longest};
-ghost use Rattle.streams.specs.Meaning.{Means, InRoom};
+ghost use Rattle.streams.specs.Meaning.{HasEnded, InRoom, IsRead, Means, place_of};
 
 use crate::answer::{count_moved, interpret};
 use crate::{Meaning, Received};
@@ -21,6 +22,8 @@ fn read_some<R: Read>(input: &mut R, buffer: &mut [u8], at: usize) -> Meaning
     requires { at < length buffer.old }
     ensures means { Means at (length buffer.old) result }
     ensures buffer_unchanged { take at buffer.new ≡ take at buffer.old }
+    ensures taken { Consumes (R.remaining input.old) (R.remaining input.new) (slice_range buffer.new at (place_of result)) }
+    ensures ended { HasEnded (R.remaining input.new) result }
 {
     let room = buffer.len();
     let got = count_moved(input.read(&mut buffer[at..]));
@@ -29,7 +32,8 @@ fn read_some<R: Read>(input: &mut R, buffer: &mut [u8], at: usize) -> Meaning
 
 // Reads until the buffer is full, the input ends or a read fails.
 pub fn read_all<R: Read>(input: &mut R, buffer: &mut [u8]) -> Received
-    ensures { InRoom result (length buffer.new) }
+    ensures in_room { InRoom result (length buffer.new) }
+    ensures read { IsRead (R.remaining input.old) (R.remaining input.new) buffer.new result }
 {
     let mut at: usize = 0;
     while at < buffer.len() {
