@@ -70,10 +70,10 @@ module _ {M : Type 1} {𝓤 : Ura M} (𝓛 : Logic 𝓤) (mem : Memory → SProp
     Step = (step.clauses 𝓛 mem runs κs a).ensures tt r e
 
     pub step_leaves : ent 𝓤 Step (fact 𝓤 (lent_step e.1.1.0.now r ≡ lent_step_of (step_on (model_of a.0) a.1.0.now (signals a.1.1.1.0 a.1.1.1.1.0) a.1.1.0.now)))
-    step_leaves = follows (λ p. p.0)
+    step_leaves = first
 
     pub step_keeps : ent 𝓤 Step (fact 𝓤 ((r ≡ 0 → ⊥) → (r ≡ 255 → ⊥) → e.1.1.0.now ≡ a.1.1.0.now))
-    step_keeps = follows (λ p. p.1)
+    step_keeps = second
 
   module _ (κs : Lfts 2) (a : Args run.signature κs) (r : Res run.signature κs) (e : AtExit run.ended κs) where
     pub run_leaves : ent 𝓤 ((run.clauses 𝓛 mem runs κs a).ensures tt r e)

@@ -7,4 +7,4 @@ pub returns : goal.returns
 returns c =
     let a = c.args in
     let e = c.step_on_cells-s.ensures in
-    (e, kept (model_of a.model) a.rom.now (signals a.input a.pulse) a.machine.now _ e)
+    record { value = e; kept = kept (model_of a.model) a.rom.now (signals a.input a.pulse) a.machine.now _ e }
