@@ -11,19 +11,19 @@ returns-then-word-ne0 c =
 
 pub returns-in-2 : goal.returns-in-2
 unfolding columns
-returns-in-2 c = rw (c.in-2.is, c.onward_if.ensures, c.in_file.ensures)
+returns-in-2 c = rw c.in-2.is cc
 
 pub returns-in-3 : goal.returns-in-3
 unfolding columns
-returns-in-3 c = rw (c.in-3.is, c.onward_if-in-3.ensures, c.in_file-in-3.ensures)
+returns-in-3 c = rw c.in-3.is cc
 
 pub returns-in-10 : goal.returns-in-10
 unfolding columns
-returns-in-10 c = rw (c.in-10.is, c.onward_if-in-10.ensures)
+returns-in-10 c = rw c.in-10.is cc
 
 pub returns-in-11 : goal.returns-in-11
 unfolding columns
-returns-in-11 c = rw (c.in-11.is, c.onward_if-in-11.ensures)
+returns-in-11 c = rw c.in-11.is cc
 
 pub returns-in-47 : goal.returns-in-47
 unfolding columns
