@@ -120,7 +120,7 @@ module _ (chip : Chip) (rom : List ℕ) (signals : Signals) where
     halted : (step m).reply ≡ in_standby → m.control.standby ≡ HALT → (step m).machine ≡ ticked_by 1 signals.pulse m
     halted e s = stood e ∙ ap (λ (mark : ℕ). cond (eqb mark HALT) (ticked_by 1 signals.pulse m) m) s
 
-    stood_cells : cells_of (stood_by signals.pulse m) ≡ cells_of m
+    pub stood_cells : cells_of (stood_by signals.pulse m) ≡ cells_of m
     stood_cells = either (λ (x : Machine). cells_of x ≡ cells_of m) (eqb m.control.standby HALT) (ticked_by 1 signals.pulse m) m refl refl
 
     skipped : is_marked m.control.skip ≡ true → cells_of (step m).machine ≡ cells_of m

@@ -2,7 +2,7 @@
 -- Assumes nothing.
 use mathlib.Core.Path.{◌≡◌, ◌∙◌, refl, ap}
 use mathlib.Core.Bool.{true}
-use mathlib.Core.List.{List, ◌++◌}
+use mathlib.Core.List.{List}
 use Prim.Native.Nat.{ℕ, ◌*◌, ◌/◌, ◌≤◌}
 use native.Mathlib.Omega.{arith}
 use lib.ListN.{length, take, replicate, length-replicate}
@@ -16,8 +16,13 @@ use Rattle.station_file.specs.Station.{Station, form2}
 use Rattle.station_file.proofs.Overlaid.{overlay_front, overlay_long, read_so}
 use Rattle.station_file.proofs.InForms.{read_sound}
 use Rattle.station_file.proofs.Soundness.{few_words, few_entries, sheet_entries, whole_records, few_records}
-use Rattle.transcript.specs.Text.{newline, file_text, decimal}
-use Rattle.transcript.specs.Transcript.{station_text, read_text, transcript_of}
+use Rattle.transcript.specs.Transcript.{station_text, read_text}
+use Rattle.transcript.specs.Why.{refusal_line, told_of}
+
+-- what `station` prints for a file is told of it
+pub told_same : (r : Reading Station) → told_of station_text r ≡ read_text r
+told_same (got s rest) = refl
+told_same (refused n) = refl
 
 -- the buffers that a file is read into
 abbrev pub cleared : Buffers
@@ -30,7 +35,8 @@ pub record Loads (r : Reading Station) (words entries records : ℕ) (c : Buffer
   pub even : 2 * entries ≤ 2048
   pub inputs : 11 * records ≤ length c.inputs
   pub few : 11 * records ≤ 45045
-  pub text : station_text (record { rom = take words c.rom; sheet = take (2 * entries) c.sheet; inputs = take (11 * records) c.inputs }) ≡ read_text r
+  pub text : (good : Station → List ℕ)
+      → good (record { rom = take words c.rom; sheet = take (2 * entries) c.sheet; inputs = take (11 * records) c.inputs }) ≡ told_of good r
 
 -- they have room for every sound station
 room : (s : Station) → Sound form2 s → fits_in s cleared ≡ true
@@ -57,7 +63,7 @@ stands s rest g =
       even = rw t (few_entries form2 s g);
       inputs = rw w (overlay_long s.inputs cleared.inputs);
       few = omega (arith, few_records form2 s g);
-      text = rw (w, t, overlay_front s.rom cleared.rom, overlay_front s.sheet cleared.sheet, overlay_front s.inputs cleared.inputs);
+      text = λ good. rw (w, t, overlay_front s.rom cleared.rom, overlay_front s.sheet cleared.sheet, overlay_front s.inputs cleared.inputs);
     }
 
 module _ (file : List ℕ) where
@@ -89,11 +95,10 @@ module _ (file : List ℕ) where
           absurd (let z : ◌≡◌ {A = ℕ} 0 1 = cc in omega arith)
 
   pub bad : (n : ℕ) (c : Buffers) → record { reply = read.refused n; buffers = c } ≡ read_of file cleared
-      → file_text ++ decimal n ++ newline ≡ transcript_of file
-  unfolding transcript_of
-  bad n c e = go (load_of file) refl
+      → (good : Station → List ℕ) → refusal_line n ≡ told_of good (load_of file)
+  bad n c e good = go (load_of file) refl
     where
-      go : (r : Reading Station) → load_of file ≡ r → file_text ++ decimal n ++ newline ≡ read_text r
+      go : (r : Reading Station) → load_of file ≡ r → refusal_line n ≡ told_of good r
       go (got s rest) q =
           let f = ap (λ (y : Read). y.reply) (is_read s rest q _ e) in
           absurd (let z : ◌≡◌ {A = ℕ} 0 1 = cc in omega arith)

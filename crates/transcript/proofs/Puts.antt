@@ -6,7 +6,7 @@ use Prim.Native.Nat.{ℕ, suc, ◌+◌, ◌<◌, ◌≤◌}
 use native.Mathlib.Nat.{add-zero}
 use native.Mathlib.Omega.{arith}
 use lib.ListN.{length, get_or, take, set, length-append}
-use lib.Seq.{sets, sets-eq, take-suc, take_all, length-take-le}
+use lib.Seq.{sets, sets-eq, take-suc, take_all, length-sets, length-take-le}
 use Rattle.station_file.specs.Read.{overlay}
 use Rattle.transcript.specs.Printing.{Wrote}
 
@@ -46,6 +46,10 @@ reworded {most} {at} {r} {a} {b} {x} {y} e w = rw (← e) w
 -- another bound
 pub bounded : {j at r : ℕ} {a x y : List ℕ} → (most : ℕ) → r ≤ at + most → Wrote j at a x y r → Wrote most at a x y r
 bounded most h w = record { bytes = w.bytes; place = w.place; short = h }
+
+-- a buffer keeps its length
+pub as_long : {most at r : ℕ} {text x y : List ℕ} → Wrote most at text x y r → length y ≡ length x
+as_long {most} {at} {r} {text} {x} {y} w = ap length w.bytes ∙ length-sets x at text
 
 -- a text that fits
 pub fitting : (text out : List ℕ) → length text ≤ length out → sets out 0 text ≡ overlay text out

@@ -18,6 +18,7 @@ use Rattle.transcript.specs.Printing.{Wrote, RecordedTo}
 use Rattle.transcript.specs.Text.{newline, sheet_text, none_text}
 use Rattle.transcript.specs.Transcript.{Progress, verdict_text, sheet_line, end_line, station_text, transcript_of}
 use Rattle.transcript.specs.Print.{Print, printed, refused, print_of}
+use Rattle.transcript.specs.Put.{put_of}
 use Rattle.transcript.proofs.Puts.{joined, reworded, fitting}
 
 module _ (s : Station) {x y z : List ℕ} {r q : ℕ} where
@@ -51,6 +52,20 @@ module _ (file out : List ℕ) (n : ℕ) where
       let l : n ≡ length (transcript_of file) = omega arith in
       let g : length (transcript_of file) ≤ length out = omega arith in
       rw (le-leb (length (transcript_of file)) (length out) g, f, fitting (transcript_of file) out g, l)
+
+-- any text put into a buffer
+module _ (text out : List ℕ) (n : ℕ) where
+  pub put_short : n ≡ 0 + length text → length out < n → record { reply = refused 25; out = out } ≡ put_of text out
+  unfolding put_of
+  put_short e h = rw (lt-leb (length text) (length out) (omega arith))
+
+  pub put_whole : (after : List ℕ) → n ≡ 0 + length text → n ≤ length out → after ≡ sets out 0 text
+      → record { reply = printed n; out = after } ≡ put_of text out
+  unfolding put_of
+  put_whole after e h f =
+      let l : n ≡ length text = omega arith in
+      let g : length text ≤ length out = omega arith in
+      rw (le-leb (length text) (length out) g, f, fitting text out g, l)
 
 -- a text that was printed lies within the buffer
 module _ (file out after : List ℕ) (n : ℕ) where

@@ -51,7 +51,7 @@ module _ (rom : List ℕ) where
       let first = record_of rom n j p in
       rw e (ap (followed first) (last_input is i (suc n) first.progress) ∙ rw (append_assoc first.text) refl)
 
-  one_more : (xs : List ℕ) (k : ℕ) → up_to rom xs (k + 1) ≡ followed (up_to rom xs k) (record_of rom (k + 1) (input_at k xs) (up_to rom xs k).progress)
+  pub one_more : (xs : List ℕ) (k : ℕ) → up_to rom xs (k + 1) ≡ followed (up_to rom xs k) (record_of rom (k + 1) (input_at k xs) (up_to rom xs k).progress)
   one_more xs k =
       let t : 1 + length (inputs_of k xs) ≡ k + 1 = omega (arith, input_count_lem k xs) in
       ap (λ (m : ℕ). up_to rom xs m) (add-one k) ∙ ap (λ (is : List Input). records_of rom 1 is begun) (one_more_input k xs)

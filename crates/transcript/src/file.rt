@@ -11,7 +11,7 @@ use crate::line::put_bad_file;
 use crate::whole::put_station;
 use station_file::{FileRefusal, Loaded};
 
-fn refusal_number(refusal: FileRefusal) -> u16
+pub(crate) fn refusal_number(refusal: FileRefusal) -> u16
     ensures { result ≡ file_number refusal }
 {
     refusal.number() as u16

@@ -18,7 +18,7 @@ fn refusal_number(refusal: Refusal) -> u16
     refusal.number() as u16
 }
 
-fn word_at(rom: &[u16], pc: u16) -> u16
+pub(crate) fn word_at(rom: &[u16], pc: u16) -> u16
     ensures { result ≡ get_or rom.now pc 0 }
 {
     let at = pc as usize;
@@ -55,7 +55,7 @@ fn stopped(machine: Machine, count: Count, refusal: Refusal, at: usize) -> Progr
 }
 
 // One record. After a refusal nothing changes.
-fn put_record(
+pub(crate) fn put_record(
     rom: &[u16],
     number: u16,
     input: Input,
