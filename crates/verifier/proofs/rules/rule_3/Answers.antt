@@ -1,6 +1,9 @@
 use borrow.Author.Rules.{rules}
 use Rattle.verifier.proofs.rules.rule_3.Goals as goal
 
+pub returns-in-Onward : goal.returns-in-Onward
+returns-in-Onward c = search rules
+
 pub returns-in-ReadsTable : goal.returns-in-ReadsTable
 returns-in-ReadsTable c = rw c.in-ReadsTable.is c.table_allowed.ensures
 
