@@ -45,7 +45,7 @@ pub struct Machine {
 }
 
 // Why a step is refused: refusals 1 to 8, in their order, with 30 after 4 and 31 after 8.
-#[derive(Clone, Copy)]
+#[derive(Clone, Copy, PartialEq, Eq)]
 pub enum Refusal {
     OutOfRange,
     PastRom,
@@ -59,11 +59,14 @@ pub enum Refusal {
     MissingCell,
 }
 
-impl Refusal {
-    pub fn number(self) -> u8
-        ensures { result ≡ number_of self }
+// Each refusal's number.
+impl From<Refusal> for u8 {
+    ghost from_gives = { λ refusal number. number ≡ number_of refusal };
+
+    fn from(refusal: Refusal) -> u8
+        ensures { result ≡ number_of refusal }
     {
-        match self {
+        match refusal {
             Refusal::OutOfRange => 1,
             Refusal::PastRom => 2,
             Refusal::NoInstruction => 3,
