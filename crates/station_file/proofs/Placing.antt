@@ -22,7 +22,7 @@ use Rattle.station_file.specs.declared.FileRefusal.TheVariants.{Room}
 use Rattle.station_file.specs.declared.Form.{Form}
 use Rattle.station_file.specs.declared.Layout.{Layout}
 use Rattle.station_file.specs.declared.Layout.TheVariants as layout
-use Rattle.station_file.specs.declared.Loaded.TheVariants as loaded
+use Rattle.std.specs.Prelude.{Ok, Err}
 use Rattle.station_file.proofs.Halves.{length_ranges}
 use Rattle.station_file.proofs.WordLists.{length_words}
 use Rattle.station_file.proofs.Splices.{splice_front}
@@ -49,7 +49,7 @@ module _ (form : Form) (file : List ℕ) (q : form_of form ≡ form_for file) (l
   unfolding load_of
   parsed = ap (λ (g : station.Form). forms.loaded g (parse_of g file)) (sym q) ∙ ap (forms.loaded (form_of form)) (sym h)
 
-  pub refuses : (b : Buffers) {f g : FileRefusal} → l ≡ layout.Refused g → f ≡ layout_refusal l → read_by (loaded.Refused f) b ≡ read_of file b
+  pub refuses : (b : Buffers) {f g : FileRefusal} → l ≡ layout.Refused g → f ≡ layout_refusal l → read_by (Err f) b ≡ read_of file b
   unfolding read_of
   refuses b e i = rw (parsed, i, e) refl
 
@@ -74,7 +74,7 @@ module _ (form : Form) (file : List ℕ) (q : form_of form ≡ form_for file) (l
       inputs_length = length_part file d (11 * n) (inside file (width_of form) k f).2
 
       abbrev Full : Type 0
-      Full = read_by (loaded.Refused Room) (buffers_of rom sheet inputs) ≡ read_of file (buffers_of rom sheet inputs)
+      Full = read_by (Err Room) (buffers_of rom sheet inputs) ≡ read_of file (buffers_of rom sheet inputs)
 
       pub rom_full : length rom < w → Full
       unfolding read_of read_as
@@ -95,7 +95,7 @@ module _ (form : Form) (file : List ℕ) (q : form_of form ≡ form_for file) (l
       pub fills : (rom' sheet' inputs' : List ℕ) → w ≤ length rom → e ≤ length sheet / 2 → 11 * n ≤ length inputs
           → rom' ≡ overlay (words w (drop a file)) rom → sheet' ≡ overlay ranges sheet
           → inputs' ≡ splice 0 (take (11 * n) (drop d file)) inputs
-          → read_by (loaded.Station w e n) (buffers_of rom' sheet' inputs') ≡ read_of file (buffers_of rom sheet inputs)
+          → read_by (Ok (record { words = w; entries = e; records = n })) (buffers_of rom' sheet' inputs') ≡ read_of file (buffers_of rom sheet inputs)
       unfolding read_of read_as
       fills rom' sheet' inputs' x y z r s i =
           let t : 2 * e ≤ length sheet = omega arith in

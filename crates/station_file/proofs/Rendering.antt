@@ -21,7 +21,7 @@ use Rattle.station_file.specs.declared.FileRefusal.TheVariants.{Form, Early, Cou
 use Rattle.station_file.specs.declared.Form as declared
 use Rattle.station_file.specs.declared.Test.{Test}
 use Rattle.station_file.specs.declared.Test.TheVariants as test
-use Rattle.station_file.specs.declared.Written.TheVariants as written
+use Rattle.std.specs.Prelude.{Ok, Err}
 use Rattle.station_file.proofs.Packing.{packed_count}
 use Rattle.station_file.proofs.Parts.{flat, length_render as written-length}
 use Rattle.station_file.proofs.Splices.{splice_join, splice_front, length_word_bytes}
@@ -89,7 +89,7 @@ module _ (rom sheet inputs : List ℕ) where
     no_zero After = refl
     no_zero Room = refl
 
-    pub refuses : {f g : FileRefusal} → k ≡ test.Refused g → f ≡ test_refusal k → written_by (written.Refused f) out ≡ write_of lent out
+    pub refuses : {f g : FileRefusal} → k ≡ test.Refused g → f ≡ test_refusal k → written_by (Err f) out ≡ write_of lent out
     unfolding write_of
     refuses {f} {g} e i = rw (← h, i, e, no_zero g) refl
 
@@ -106,10 +106,10 @@ module _ (rom sheet inputs : List ℕ) where
       unfolding in_file
       lengths = ap length (sym file) ∙ written-length (form_of form) (in_file (form_of form) lent)
 
-      pub full : length out < size form → written_by (written.Refused Room) out ≡ write_of lent out
+      pub full : length out < size form → written_by (Err Room) out ≡ write_of lent out
       unfolding write_of
       full l = rw (good, lengths, lt-leb (size form) (length out) l) refl
 
-      pub writes : size form ≤ length out → (out₁ : List ℕ) → out₁ ≡ overlay (text form) out → written_by (written.Bytes (size form)) out₁ ≡ write_of lent out
+      pub writes : size form ≤ length out → (out₁ : List ℕ) → out₁ ≡ overlay (text form) out → written_by (Ok (size form)) out₁ ≡ write_of lent out
       unfolding write_of
       writes l out₁ o = rw (o ∙ ap (λ (xs : List ℕ). overlay xs out) file, good, lengths, le-leb (size form) (length out) l) refl

@@ -12,18 +12,18 @@ use Rattle.station_file.specs.Forms.{doubled}
 use Rattle.station_file.specs.Read.{overlay}
 use Rattle.station_file.specs.Write.{widen_of}
 use Rattle.station_file.specs.declared.FileRefusal.TheVariants.{Room}
-use Rattle.station_file.specs.declared.Written.TheVariants.{Bytes, Refused}
+use Rattle.std.specs.Prelude.{Ok, Err}
 use Rattle.station_file.proofs.Halves.{length_doubled}
 
 module _ (levels out : List ℕ) where
-  pub too_short : length out / 2 < length levels → written_by (Refused Room) out ≡ widen_of levels out
+  pub too_short : length out / 2 < length levels → written_by (Err Room) out ≡ widen_of levels out
   unfolding widen_of
   too_short h =
       let b : length out < 2 * length levels = omega arith in
       rw (length_doubled levels, lt-leb (2 * length levels) (length out) b) refl
 
   pub widens : (last : List ℕ) → length levels ≤ length out / 2 → last ≡ overlay (doubled (take (length levels) levels)) out
-      → written_by (Bytes (2 * length levels)) last ≡ widen_of levels out
+      → written_by (Ok (2 * length levels)) last ≡ widen_of levels out
   unfolding widen_of
   widens last h e =
       let b : 2 * length levels ≤ length out = omega arith in

@@ -6,8 +6,8 @@ ghost use Rattle.station_file.specs.Forms.{doubled, lowest_of};
 ghost use Rattle.station_file.specs.Write.{word_bytes, widen_of};
 ghost use Rattle.station_file.specs.Places.{words, splice};
 
+use crate::FileRefusal;
 use crate::two_bytes::{put_number, word};
-use crate::{FileRefusal, Written};
 
 // So many bytes of a list, from a place of it to a place of another.
 pub(crate) fn copy_bytes(bytes: &[u8], from: usize, count: usize, out: &mut [u8], at: usize)
@@ -77,13 +77,13 @@ pub(crate) fn put_lowest(sheet: &[u8], out: &mut [u8], at: usize)
 }
 
 // Makes a sheet of single levels into one of ranges, at the front of the lent buffer. A buffer that is too short stays as it is.
-pub fn widen(levels: &[u8], out: &mut [u8]) -> Written
+pub fn widen(levels: &[u8], out: &mut [u8]) -> Result<usize, FileRefusal>
     ensures { written_by result out.new ≡ widen_of levels.now out.old }
 {
     let count = levels.len();
     if out.len() / 2 < count {
-        return Written::Refused(FileRefusal::Room);
+        return Err(FileRefusal::Room);
     }
     double_bytes(levels, 0, count, out);
-    Written::Bytes(2 * count)
+    Ok(2 * count)
 }

@@ -19,7 +19,7 @@ pub use reader::read;
 pub use writer::write;
 
 // Why a file or a station is refused: refusals 20 to 25, in their order.
-#[derive(Clone, Copy)]
+#[derive(Clone, Copy, Debug, PartialEq, Eq)]
 pub enum FileRefusal {
     Form,
     Early,
@@ -29,11 +29,11 @@ pub enum FileRefusal {
     Room,
 }
 
-impl FileRefusal {
-    pub fn number(self) -> u8
-        ensures { result ≡ file_number self }
-    {
-        match self {
+impl From<FileRefusal> for u8 {
+    ghost from_gives = { λ refusal number. number ≡ file_number refusal };
+
+    fn from(refusal: FileRefusal) -> u8 {
+        match refusal {
             FileRefusal::Form => 20,
             FileRefusal::Early => 21,
             FileRefusal::Count => 22,
@@ -44,22 +44,12 @@ impl FileRefusal {
     }
 }
 
-// What the reader answers: how much it wrote to each buffer, or why nothing.
-#[derive(Clone, Copy)]
-pub enum Loaded {
-    Station {
-        words: usize,
-        entries: usize,
-        records: usize,
-    },
-    Refused(FileRefusal),
-}
-
-// What the writer answers: how many bytes it wrote, or why none.
-#[derive(Clone, Copy)]
-pub enum Written {
-    Bytes(usize),
-    Refused(FileRefusal),
+// How much the reader wrote to each buffer.
+#[derive(Clone, Copy, Debug, PartialEq, Eq)]
+pub struct Loaded {
+    pub words: usize,
+    pub entries: usize,
+    pub records: usize,
 }
 
 // What differs between the forms of the file that have two-byte counts.

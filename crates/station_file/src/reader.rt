@@ -39,7 +39,12 @@ fn read_entries(file: &[u8], from: usize, entries: usize, form: Form, sheet: &mu
 }
 
 // Reads a file into the lent buffers, with two bytes to a sheet entry. A refused file writes nothing.
-pub fn read(file: &[u8], rom: &mut [u16], sheet: &mut [u8], inputs: &mut [u8]) -> Loaded
+pub fn read(
+    file: &[u8],
+    rom: &mut [u16],
+    sheet: &mut [u8],
+    inputs: &mut [u8],
+) -> Result<Loaded, FileRefusal>
     ensures { read_by result (buffers_of rom.new sheet.new inputs.new)
         ≡ read_of file.now (buffers_of rom.old sheet.old inputs.old) }
 {
@@ -54,24 +59,24 @@ pub fn read(file: &[u8], rom: &mut [u16], sheet: &mut [u8], inputs: &mut [u8]) -
         inputs_at,
     } = layout
     else {
-        return Loaded::Refused(layout_refusal(layout));
+        return Err(layout_refusal(layout));
     };
     let bytes = 11 * records;
     if rom.len() < words {
-        return Loaded::Refused(FileRefusal::Room);
+        return Err(FileRefusal::Room);
     }
     if sheet.len() / 2 < entries {
-        return Loaded::Refused(FileRefusal::Room);
+        return Err(FileRefusal::Room);
     }
     if inputs.len() < bytes {
-        return Loaded::Refused(FileRefusal::Room);
+        return Err(FileRefusal::Room);
     }
     read_words(file, rom_at, words, rom);
     read_entries(file, sheet_at, entries, form, sheet);
     copy_bytes(file, inputs_at, bytes, inputs, 0);
-    Loaded::Station {
+    Ok(Loaded {
         words,
         entries,
         records,
-    }
+    })
 }

@@ -11,7 +11,7 @@ use crate::copies::{copy_bytes, put_lowest, put_words};
 use crate::forms::{form_2, lowest_form};
 use crate::limits::{rom_count, sheet_count};
 use crate::two_bytes::put_number;
-use crate::{FileRefusal, Form, Test, Written, scan};
+use crate::{FileRefusal, Form, Test, scan};
 
 // The station's first refusal, in the file's order. In memory a sheet is as in form 2.
 fn check(rom: &[u16], sheet: &[u8], inputs: &[u8]) -> Test
@@ -105,19 +105,19 @@ fn test_refusal(checked: Test) -> FileRefusal
 }
 
 // Writes a station's file to the front of the lent buffer. A refused station writes nothing.
-pub fn write(rom: &[u16], sheet: &[u8], inputs: &[u8], out: &mut [u8]) -> Written
+pub fn write(rom: &[u16], sheet: &[u8], inputs: &[u8], out: &mut [u8]) -> Result<usize, FileRefusal>
     ensures { written_by result out.new
         ≡ write_of (station_of rom.now sheet.now inputs.now) out.old }
 {
     let checked = check(rom, sheet, inputs);
     let Test::Passed = checked else {
-        return Written::Refused(test_refusal(checked));
+        return Err(test_refusal(checked));
     };
     let form = lowest_form(sheet);
     let size = 8 + 2 * rom.len() + packed_length(sheet, form) + inputs.len();
     if out.len() < size {
-        return Written::Refused(FileRefusal::Room);
+        return Err(FileRefusal::Room);
     }
     put_sections(rom, sheet, inputs, form, out);
-    Written::Bytes(size)
+    Ok(size)
 }

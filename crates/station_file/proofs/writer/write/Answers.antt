@@ -3,7 +3,7 @@ use Prim.Native.Nat.{ℕ, ◌+◌, ◌*◌, ◌≤◌}
 use native.Mathlib.Omega.{arith}
 use lib.ListN.{length}
 use Rattle.station_file.specs.Answers.{written_by}
-use Rattle.station_file.specs.declared.Written.TheVariants as written
+use Rattle.std.specs.Prelude.{Ok}
 use Rattle.station_file.proofs.Packing.{packed_short}
 use Rattle.station_file.proofs.Rendering.{refuses, full, writes, small}
 -- a station that passed is small
@@ -48,6 +48,6 @@ returns c =
     let n = c.packed_length in
     let p = c.put_sections in
     let out = p.new.out in
-    ap (λ (m : ℕ). written_by (written.Bytes (8 + 2 * length a.rom.now + m + length a.inputs.now)) out) n.ensures
+    ap (λ (m : ℕ). written_by (Ok (8 + 2 * length a.rom.now + m + length a.inputs.now)) out) n.ensures
     ∙ writes a.rom.now a.sheet.now a.inputs.now k.result k.ensures.tested a.out.now f.result f.ensures c.in-Passed.is
     (omega (arith, c.if-out-size.false, n.ensures)) out p.ensures
