@@ -1,9 +1,9 @@
 // From an instruction to its word.
-ghost use Rattle.std.specs.Prelude.{◌≡◌, ◌&&◌, ◌+◌, ◌*◌, ◌<◌, ltb};
+ghost use Rattle.std.specs.Prelude.{◌≡◌, ◌&&◌, ◌+◌, ◌*◌, ◌<◌, ltb, cond, Ok, Err};
 ghost use Rattle.isa.specs.Answers.{encoding_of};
 ghost use Rattle.isa.specs.Encode.{encode_of, word_of, alu_code, skip_code, addressed, jump, filed, fitted};
 
-use crate::{AluOp, Encoded, FixedOp, Instruction, SkipOp};
+use crate::{AluOp, FixedOp, Instruction, SkipOp, TooLarge};
 
 fn alu_code(op: AluOp) -> u16
     ensures { (result ≡ alu_code op) × (result < 7) }
@@ -53,46 +53,47 @@ fn fixed(op: FixedOp) -> u16
     }
 }
 
+// A value for a field that has `size` values.
+fn field(value: u16, size: u16) -> Result<u16, TooLarge>
+    ensures { result ≡ cond (ltb value size) (Ok value) (Err (record {})) }
+{
+    if value < size {
+        Ok(value)
+    } else {
+        Err(TooLarge)
+    }
+}
+
 // An opcode, an address and a nibble.
-fn with_address(op: u16, m: u8, x: u8) -> Encoded
+fn with_address(op: u16, m: u8, x: u8) -> Result<u16, TooLarge>
     requires { op < 32 }
     ensures { encoding_of result ≡ fitted (ltb m 128 && ltb x 16) (addressed op m x) }
 {
-    if 128 <= m {
-        return Encoded::TooLarge;
-    }
-    if 16 <= x {
-        return Encoded::TooLarge;
-    }
-    Encoded::Word(op * 2048 + (m as u16) * 16 + (x as u16))
+    let m = field(u16::from(m), 128)?;
+    let x = field(u16::from(x), 16)?;
+    Ok(op * 2048 + m * 16 + x)
 }
 
 // An opcode and an 11-bit program address.
-fn with_target(op: u16, addr: u16) -> Encoded
+fn with_target(op: u16, addr: u16) -> Result<u16, TooLarge>
     requires { op < 32 }
     ensures { encoding_of result ≡ fitted (ltb addr 2048) (jump op addr) }
 {
-    if 2048 <= addr {
-        return Encoded::TooLarge;
-    }
-    Encoded::Word(op * 2048 + addr)
+    let addr = field(addr, 2048)?;
+    Ok(op * 2048 + addr)
 }
 
 // Opcode 7, a column, and a 7-bit operand around it.
-fn around(column: u16, p: u8) -> Encoded
+fn around(column: u16, p: u8) -> Result<u16, TooLarge>
     requires { column < 16 }
     ensures { encoding_of result ≡ fitted (ltb p 128) (filed column p) }
 {
-    if 128 <= p {
-        return Encoded::TooLarge;
-    }
-    let row = (p / 16) as u16;
-    let x = (p % 16) as u16;
-    Encoded::Word(0b00111 * 2048 + row * 256 + column * 16 + x)
+    let p = field(u16::from(p), 128)?;
+    Ok(0b00111 * 2048 + p / 16 * 256 + column * 16 + p % 16)
 }
 
 // The word of an instruction.
-pub fn encode(instruction: Instruction) -> Encoded
+pub fn encode(instruction: Instruction) -> Result<u16, TooLarge>
     ensures { encoding_of result ≡ encode_of instruction }
 {
     match instruction {
@@ -113,6 +114,6 @@ pub fn encode(instruction: Instruction) -> Encoded
         Instruction::Call(addr) => with_target(0b11100, addr),
         Instruction::Stop(s) => with_address(0b00111, 0b010_1111, s),
         Instruction::Halt(h) => with_address(0b00111, 0b011_1111, h),
-        Instruction::Fixed(op) => Encoded::Word(fixed(op)),
+        Instruction::Fixed(op) => Ok(fixed(op)),
     }
 }

@@ -74,18 +74,6 @@ pub enum Instruction {
     Fixed(FixedOp),
 }
 
-// What a word decodes to.
-#[derive(Clone, Copy)]
-pub enum Decoded {
-    Instruction(Instruction),
-    // The word is no instruction: refusal 3.
-    Nothing,
-}
-
-// What an instruction encodes to.
-#[derive(Clone, Copy)]
-pub enum Encoded {
-    Word(u16),
-    // An operand is too large for its field: refusal 10, with word 0.
-    TooLarge,
-}
+// The refusal of the encoder: an operand is too large for its field.
+#[derive(Clone, Copy, Debug, PartialEq, Eq)]
+pub struct TooLarge;
