@@ -41,5 +41,5 @@ module _ (chip : Chip) (rom sheet : List ℕ) where
       (one_more chip.levels table (entry_at sheet w) fits e ∙ ap (λ (b : Bool). shares chip.levels (entry_at sheet w) e || b) (s e))
 
   pub all_seen : (w : ℕ) (table : List ℕ) → w ≡ length rom → Seen w table → ReturnDepths chip rom sheet table
-  unfolding Seen ReturnDepths skip_returns
+  unfolding Seen skip_returns
   all_seen w table q s e = s e ∙ ap (some (returning e)) q

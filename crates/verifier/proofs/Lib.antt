@@ -1,5 +1,4 @@
 pub mod OneReturn
-pub mod OtherFlows
 pub mod Depths
 pub mod Exact
 pub mod Scan

@@ -4,7 +4,7 @@ use mathlib.Core.Path.{◌≡◌, ◌∙◌, ap, refl, sym, subst}
 use mathlib.Core.Bool.{Bool, true, false}
 use mathlib.Core.List.{List}
 use mathlib.Core.Logic.{⊎_elim}
-use Prim.Native.Nat.{ℕ, zero, suc, ◌+◌, ◌*◌, ◌-◌, ◌<◌, ◌≤◌, zero-le}
+use Prim.Native.Nat.{ℕ, suc, ◌+◌, ◌*◌, ◌-◌, ◌<◌, ◌≤◌, zero-le}
 use native.Mathlib.Nat.{eq-or-lt_of_le, zero-add, not-suc-le-zero}
 use native.Mathlib.Omega.{arith}
 use borrow.Author.Tests.{lt-ltb, le-ltb, le-leb, lt-leb, eq-eqb, ne_eqb}
@@ -14,27 +14,9 @@ use Rattle.laws.proofs.Booleans.{not_passed}
 use Rattle.laws.proofs.First.{Clear, First, first_is}
 use Rattle.memory.specs.Chip.{Chip}
 use Rattle.machine.specs.Ranges.{rom_in_range}
-use Rattle.control.specs.declared.Flow.{Flow}
-use Rattle.sheet.specs.Entry.{entry_at, reached}
-use Rattle.sheet.specs.declared.Entry.{Entry}
-use Rattle.clearance.specs.Rules.{flow_at, rule_of, rule_holds}
+use Rattle.clearance.specs.Rules.{rule_holds}
 use Rattle.verifier.specs.Verdict.{pass, fail, refused, word_holds, lowest_word, lowest_rule, ruled, verify_of}
 use Rattle.verifier.proofs.Exact.{word_holds_lem, rule_holds_lem}
-
--- rules 3 to 6 hold at a word that is not reached
-module _ (chip : Chip) (rom sheet : List ℕ) (w : ℕ) (f : Flow) (e : Entry) where
-  unreached_from : (k : ℕ) → k < 4 → reached chip.levels e ≡ false → rule_of chip rom sheet w f e (k + 3) ≡ true
-  unfolding rule_of
-  unreached_from zero h n = rw n refl
-  unreached_from (suc zero) h n = rw n refl
-  unreached_from (suc (suc zero)) h n = rw n refl
-  unreached_from (suc (suc (suc zero))) h n = rw n refl
-  unreached_from (suc (suc (suc (suc k)))) h n = absurd (omega arith)
-
-  pub unreached_holds : (r : ℕ) → reached chip.levels e ≡ false → 3 ≤ r → r ≤ 6 → rule_of chip rom sheet w f e r ≡ true
-  unreached_holds r n a b =
-      let q : r - 3 + 3 ≡ r = omega arith in
-      subst (λ (x : ℕ). rule_of chip rom sheet w f e x ≡ true) q (unreached_from (r - 3) (omega arith) n)
 
 module _ (chip : Chip) (rom sheet : List ℕ) where
   abbrev R : ℕ → ℕ → Bool
@@ -42,11 +24,6 @@ module _ (chip : Chip) (rom sheet : List ℕ) where
 
   abbrev W : ℕ → Bool
   W w = word_holds chip rom sheet w
-
-  -- a rule of a word's own flow and entry
-  pub of_word : (w : ℕ) (f : Flow) (e : Entry) (r : ℕ) (found b : Bool) → f ≡ flow_at rom w → e ≡ entry_at sheet w
-      → found ≡ rule_of chip rom sheet w f e r → found ≡ b → rule_holds chip rom sheet w r ≡ b
-  of_word w f e r found b p q h k = sym (ap (λ (x : Flow). rule_of chip rom sheet w x e r) p ∙ ap (λ (x : Entry). rule_of chip rom sheet w (flow_at rom w) x r) q) ∙ sym h ∙ k
 
   -- the rules below a number hold at a word, and all rules at the words below one
   abbrev pub RulesTo : ℕ → ℕ → Type 0

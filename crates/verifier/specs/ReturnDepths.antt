@@ -7,5 +7,5 @@ use Rattle.sheet.specs.declared.Entry.{Entry}
 use Rattle.clearance.specs.Rules.{skip_returns}
 
 -- of every entry it tells whether a reached RETSK shares a depth with it
-unfoldable pub ReturnDepths : Chip → List ℕ → List ℕ → List ℕ → Type 0
+abbrev pub ReturnDepths : Chip → List ℕ → List ℕ → List ℕ → Type 0
 ReturnDepths chip rom sheet table = (e : Entry) → shares_any chip.levels table e ≡ skip_returns chip rom sheet e

@@ -1,15 +1,17 @@
 -- What the check answers: document 01, "A failed check names the lowest word that breaks a rule, and its lowest rule"; and
 -- when it passes: demand 3, "exactly when".
 -- Assumes nothing.
-use Rattle.std.specs.Prelude.{◌≡◌, Bool, true, cond, List, ◌↔◌, ℕ, suc, ◌*◌, eqb, ltb, length}
+use Rattle.std.specs.Prelude.{◌≡◌, Bool, true, cond, List, ◌↔◌, ℕ, suc, ◌*◌, eqb, ltb, length, Result, Ok, Err}
 use mathlib.Mathlib.Logic.Function.Defs.{Injective}
 use Rattle.laws.specs.Every.{every}
 use Rattle.laws.specs.First.{first_false}
 use Rattle.memory.specs.Chip.{Chip}
 use Rattle.machine.specs.Ranges.{rom_in_range}
 use Rattle.clearance.specs.Rules.{rule_holds, EveryRule}
+use Rattle.verifier.specs.declared.CheckRefusal.{CheckRefusal}
+use Rattle.verifier.specs.declared.CheckRefusal.TheVariants.{RomLength, SheetLength}
 use Rattle.verifier.specs.declared.Verdict.{Verdict}
-use Rattle.verifier.specs.declared.Verdict.TheVariants.{Pass, Fail, RomLength, SheetLength}
+use Rattle.verifier.specs.declared.Verdict.TheVariants.{Pass, Fail}
 
 pub data CheckAnswer : Type 0 where
   pass : CheckAnswer
@@ -17,13 +19,16 @@ pub data CheckAnswer : Type 0 where
   fail : ℕ → ℕ → CheckAnswer
   refused : ℕ → CheckAnswer
 
-abbrev pub answer_of : Verdict → CheckAnswer
-answer_of Pass = pass
-answer_of (Fail word rule) = fail word rule
-answer_of RomLength = refused 1
-answer_of SheetLength = refused 9
+abbrev pub check_number : CheckRefusal → ℕ
+check_number RomLength = 1
+check_number SheetLength = 9
 
--- what stands for each verdict loses nothing
+abbrev pub answer_of : Result Verdict CheckRefusal → CheckAnswer
+answer_of (Ok Pass) = pass
+answer_of (Ok (Fail word rule)) = fail word rule
+answer_of (Err refusal) = refused (check_number refusal)
+
+-- what stands for each answer loses nothing
 abbrev pub VerdictsApart : Type 0
 VerdictsApart = Injective answer_of
 

@@ -2,38 +2,50 @@
 
 #![tactic(auto)]
 
-mod entries;
 mod reading;
 mod rules;
 mod verification;
 
 ghost use Rattle.std.specs.Prelude.{◌≡◌};
-ghost use Rattle.verifier.specs.Verdict.{answer_of, verdict_number};
+ghost use Rattle.verifier.specs.Verdict.{answer_of, check_number, verdict_number};
 
 pub use verification::verify;
 
-// What the check answers.
-#[derive(Clone, Copy)]
+// What the check says of a ROM and a sheet that fit each other.
+#[derive(Clone, Copy, Debug, PartialEq, Eq)]
 pub enum Verdict {
     Pass,
     // The lowest word that breaks a clearance rule, and its lowest rule.
     Fail { word: u16, rule: u8 },
-    // The ROM has no word, or more than the model allows: refusal 1.
+}
+
+// Why the check tries no rule.
+#[derive(Clone, Copy, Debug, PartialEq, Eq)]
+pub enum CheckRefusal {
+    // The ROM has no word, or more than the model allows.
     RomLength,
-    // The sheet has not two bytes for each word of the ROM: refusal 9.
+    // The sheet has not two bytes for each word of the ROM.
     SheetLength,
 }
 
-impl Verdict {
-    // 0 for a pass and 254 for a fail, which no refusal is.
-    pub fn number(self) -> u8
-        ensures { result ≡ verdict_number (answer_of self) }
-    {
-        match self {
-            Verdict::Pass => 0,
-            Verdict::Fail { word: _, rule: _ } => 254,
-            Verdict::RomLength => 1,
-            Verdict::SheetLength => 9,
+impl From<CheckRefusal> for u8 {
+    ghost from_gives = { λ refusal number. number ≡ check_number refusal };
+
+    fn from(refusal: CheckRefusal) -> u8 {
+        match refusal {
+            CheckRefusal::RomLength => 1,
+            CheckRefusal::SheetLength => 9,
         }
+    }
+}
+
+// 0 for a pass and 254 for a fail, which no refusal is.
+pub fn verdict_number(answer: Result<Verdict, CheckRefusal>) -> u8
+    ensures { result ≡ verdict_number (answer_of answer) }
+{
+    match answer {
+        Ok(Verdict::Pass) => 0,
+        Ok(Verdict::Fail { word: _, rule: _ }) => 254,
+        Err(refusal) => u8::from(refusal),
     }
 }

@@ -5,30 +5,48 @@ ghost use Rattle.control.specs.Flow.{word_flow};
 ghost use Rattle.clearance.specs.Rules.{is_return_skip, flow_at, met};
 ghost use Rattle.verifier.specs.ReturnDepths.{ReturnDepths};
 
-use crate::entries::{has_all_of, with_depths};
 use control::Flow;
 use memory::Model;
-use sheet::{Entry, UNREACHED, entry_at};
+use sheet::{Entry, UNREACHED, entry_at, has_all_of, with_depths};
+
+// What the rules read, for one model.
+#[derive(Clone, Copy)]
+pub(crate) struct Check<'a> {
+    pub(crate) model: Model,
+    pub(crate) rom: &'a [u16],
+    pub(crate) sheet: &'a [u8],
+    // The depths that some reached RETSK holds.
+    pub(crate) depths: [u8; 6],
+    ghost returned: { ReturnDepths (chip_of model) rom.now sheet.now depths },
+}
+
+// A word by its number, its flow and its entry.
+#[derive(Clone, Copy)]
+pub(crate) struct Word {
+    pub(crate) number: u16,
+    pub(crate) flow: Flow,
+    pub(crate) entry: Entry,
+}
+
+impl Check<'_> {
+    // Whether a word that a rule names lies in the ROM and its entry covers what is asked.
+    #[tactic(auto, unfolding(clearance::specs::Rules::met))]
+    pub(crate) fn is_met(&self, word: u16, asked: Entry) -> bool
+        ensures { result ≡ met (chip_of self.now.model) self.now.rom.now self.now.sheet.now (record { word = word; entry = asked }) }
+    {
+        (word as usize) < self.rom.len()
+            && has_all_of(self.model.levels(), entry_at(self.sheet, word), asked)
+    }
+}
 
 // The flow of a word; past the ROM there is no instruction.
 pub(crate) fn flow_at(rom: &[u16], word: u16) -> Flow
     ensures { result ≡ flow_at rom.now word }
 {
-    let at = word as usize;
-    if rom.len() <= at {
+    let Some(code) = rom.get(word as usize) else {
         return Flow::Refused(3);
-    }
-    control::of_word(rom[at])
-}
-
-// Whether a word that a rule names lies in the ROM and its entry covers what is asked.
-pub(crate) fn is_met(model: Model, rom: &[u16], sheet: &[u8], word: u16, asked: Entry) -> bool
-    ensures { result ≡ met (chip_of model) rom.now sheet.now (record { word = word; entry = asked }) }
-{
-    if rom.len() <= word as usize {
-        return false;
-    }
-    has_all_of(model, entry_at(sheet, word), asked)
+    };
+    control::of_word(*code)
 }
 
 // RETSK's word.
@@ -41,29 +59,17 @@ fn is_return_skip(word: u16) -> bool
     word == RETSK
 }
 
-fn return_skip_at(rom: &[u16], word: u16) -> bool
-    ensures { result ≡ is_return_skip (flow_at rom.now word) }
-{
-    let at = word as usize;
-    if rom.len() <= at {
-        return false;
-    }
-    is_return_skip(rom[at])
-}
-
 // The depths that some reached RETSK holds, in one pass over the ROM.
 pub(crate) fn return_depths(model: Model, rom: &[u16], sheet: &[u8]) -> [u8; 6]
     requires { length rom.now ≤ 1024 }
     ensures { ReturnDepths (chip_of model) rom.now sheet.now result }
 {
     let mut depths = [UNREACHED; 6];
-    let mut word: u16 = 0;
-    while (word as usize) < rom.len() {
-        if return_skip_at(rom, word) {
-            let more = with_depths(model, depths, entry_at(sheet, word));
+    for (word, code) in rom.iter().enumerate() {
+        if is_return_skip(*code) {
+            let more = with_depths(model.levels(), depths, entry_at(sheet, word as u16));
             depths = more;
         }
-        word += 1;
     }
     depths
 }
