@@ -10,8 +10,8 @@ pub use answer::interpret;
 pub use reading::{file_buffer, read_all};
 pub use writing::write_all;
 
-// What an answer of `read` or of `write` means, each with the place up to which the bytes are then moved.
-#[derive(Clone, Copy)]
+// What an answer of `read` or of `write` means where it did not fail, each with the place up to which the bytes are then moved.
+#[derive(Clone, Copy, Debug, PartialEq, Eq)]
 pub enum Meaning {
     // Some moved, and more can.
     Further(usize),
@@ -19,12 +19,4 @@ pub enum Meaning {
     Full(usize),
     // None moved: the input has ended there, or the output takes no more.
     End(usize),
-    Failed(usize),
-}
-
-// How many bytes an input has, as far as there is room.
-#[derive(Clone, Copy)]
-pub enum Received {
-    Bytes(usize),
-    Failed,
 }

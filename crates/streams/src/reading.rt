@@ -4,8 +4,9 @@ ghost use Rattle.std.specs.Io.KnownBytes.{Consumes};
 ghost use Rattle.station_file.specs.Station.{longest};
 ghost use Rattle.streams.specs.Meaning.{HasEnded, InRoom, IsRead, Means, place_of};
 
-use crate::answer::{count_moved, interpret};
-use crate::{Meaning, Received};
+use crate::Meaning;
+use crate::answer::interpret;
+use std::io;
 use std::io::Read;
 
 const FILE_ROOM: usize = 49150;
@@ -18,39 +19,29 @@ pub fn file_buffer() -> [u8; FILE_ROOM]
 }
 
 // One read, of the bytes from a place on.
-fn read_some<R: Read>(input: &mut R, buffer: &mut [u8], at: usize) -> Meaning
+fn read_some<R: Read>(input: &mut R, buffer: &mut [u8], at: usize) -> io::Result<Meaning>
     requires { at < length buffer.old }
     ensures means { Means at (length buffer.old) result }
     ensures buffer_unchanged { take at buffer.new ≡ take at buffer.old }
-    ensures taken { Consumes (R.remaining input.old) (R.remaining input.new) (slice_range buffer.new at (place_of result)) }
+    ensures taken { Consumes (R.remaining input.old) (R.remaining input.new) (slice_range buffer.new at (place_of at result)) }
     ensures ended { HasEnded (R.remaining input.new) result }
 {
     let room = buffer.len();
-    let got = count_moved(input.read(&mut buffer[at..]));
-    interpret(got, at, room)
+    let answer = input.read(&mut buffer[at..]);
+    interpret(answer, at, room)
 }
 
-// Reads until the buffer is full, the input ends or a read fails.
-pub fn read_all<R: Read>(input: &mut R, buffer: &mut [u8]) -> Received
+// Reads until the buffer is full, the input ends or a read fails, and answers how many bytes it read.
+pub fn read_all<R: Read>(input: &mut R, buffer: &mut [u8]) -> io::Result<usize>
     ensures in_room { InRoom result (length buffer.new) }
     ensures read { IsRead (R.remaining input.old) (R.remaining input.new) buffer.new result }
 {
     let mut at: usize = 0;
     while at < buffer.len() {
-        match read_some(input, buffer, at) {
-            Meaning::Further(next) => {
-                at = next;
-            }
-            Meaning::Full(n) => {
-                return Received::Bytes(n);
-            }
-            Meaning::End(n) => {
-                return Received::Bytes(n);
-            }
-            Meaning::Failed(_) => {
-                return Received::Failed;
-            }
+        match read_some(input, buffer, at)? {
+            Meaning::Further(next) => at = next,
+            Meaning::Full(n) | Meaning::End(n) => return Ok(n),
         }
     }
-    Received::Bytes(at)
+    Ok(at)
 }

@@ -4,16 +4,17 @@ ghost use Rattle.std.specs.Io.KnownBytes.{Appends};
 ghost use Rattle.streams.specs.Meaning.{Means, place_of};
 
 use crate::Meaning;
-use crate::answer::{count_moved, interpret};
+use crate::answer::interpret;
+use std::io;
 use std::io::Write;
 
 // One write, of the bytes from a place on.
-fn write_some<W: Write>(output: &mut W, bytes: &[u8], at: usize) -> Meaning
+fn write_some<W: Write>(output: &mut W, bytes: &[u8], at: usize) -> io::Result<Meaning>
     requires { at < length bytes.now }
     ensures means { Means at (length bytes.now) result }
-    ensures sent { Appends (W.contents output.old) (W.contents output.new) (slice_range bytes.now at (place_of result)) }
+    ensures sent { Appends (W.contents output.old) (W.contents output.new) (slice_range bytes.now at (place_of at result)) }
 {
-    interpret(count_moved(output.write(&bytes[at..])), at, bytes.len())
+    interpret(output.write(&bytes[at..]), at, bytes.len())
 }
 
 // Writes until all is written, or a write fails or takes nothing, and answers how many bytes went out.
@@ -24,18 +25,9 @@ pub fn write_all<W: Write>(output: &mut W, bytes: &[u8]) -> usize
     let mut at: usize = 0;
     while at < bytes.len() {
         match write_some(output, bytes, at) {
-            Meaning::Further(next) => {
-                at = next;
-            }
-            Meaning::Full(n) => {
-                return n;
-            }
-            Meaning::End(n) => {
-                return n;
-            }
-            Meaning::Failed(n) => {
-                return n;
-            }
+            Ok(Meaning::Further(next)) => at = next,
+            Ok(Meaning::Full(n) | Meaning::End(n)) => return n,
+            Err(_) => return at,
         }
     }
     at
