@@ -16,7 +16,9 @@ use Rattle.laws.proofs.Booleans.{both}
 use Rattle.memory.specs.Chip.{Chip}
 use Rattle.machine.specs.Parts.{is_marked}
 use Rattle.machine.specs.Ranges.{places}
+use Rattle.machine.specs.Refusals.{number_of}
 use Rattle.machine.specs.declared.Control.{Control}
+use Rattle.machine.specs.declared.Refusal.{Refusal}
 use Rattle.control.specs.Control.{Transfer, refused_control, mark_of, next_of, top_of, in_reach, branch_of, call_of, return_of, table_of, standby_of, onward_of, by_ar_of, control_of}
 use Rattle.control.specs.declared.Rest.{Rest}
 use Rattle.control.specs.declared.ArOp.{ArOp}
@@ -123,8 +125,8 @@ module _ (chip : Chip) (rom sheet : List ℕ) where
     by_ar : (op : ArOp) (ar : ℕ) → Rules (ByAr op) → Kept (by_ar_of chip op ar c) t
     by_ar op ar r = absurd (false≢true r.third)
 
-    refuses : (n : ℕ) → Rules (Refused n) → Kept (refused_control n c) t
-    refuses n r = absurd (false≢true r.third)
+    refuses : (q : Refusal) → Rules (Refused q) → Kept (refused_control (number_of q) c) t
+    refuses q r = absurd (false≢true r.third)
 
     -- CALL stacks the next word
     module _ (to : ℕ) (r : Rules (Calls to)) where

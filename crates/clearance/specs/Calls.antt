@@ -47,7 +47,7 @@ counted (Returns skip) t = record { calls = t.calls; returns = t.returns + 1 }
 counted ReadsTable t = t
 counted (StandsBy rest) t = t
 counted (ByAr op) t = t
-counted (Refused n) t = t
+counted (Refused q) t = t
 
 -- a completed step counts its word, unless that was skipped; a step that answers "standing" or is refused counts nothing
 abbrev pub after_reply : Reply → Bool → Flow → Tally → Tally

@@ -19,7 +19,7 @@ is_return_skip (Returns skip) = skip
 is_return_skip ReadsTable = false
 is_return_skip (StandsBy rest) = false
 is_return_skip (ByAr op) = false
-is_return_skip (Refused n) = false
+is_return_skip (Refused q) = false
 
 -- a word that a rule names, and the entry that its own entry must cover
 pub record Ask : Type 0 where
@@ -71,7 +71,7 @@ rule3 chip rom (Returns skip) e = true
 rule3 chip rom ReadsTable e = eqb (length rom) (2 ^ 10) && at_most (chip.levels - 1) e
 rule3 chip rom (StandsBy rest) e = true
 rule3 chip rom (ByAr op) e = false
-rule3 chip rom (Refused n) e = false
+rule3 chip rom (Refused q) e = false
 
 -- 4: except after BR, RET and RETSK next must "hold the word's whole range"; after a skip so must the word after next, and after BR
 -- its target. What goes by AR or is refused breaks rule 3 already.
@@ -84,7 +84,7 @@ asks4 chip w (Returns skip) e = []
 asks4 chip w ReadsTable e = record { word = next_of chip w; entry = e } ∷ []
 asks4 chip w (StandsBy rest) e = record { word = next_of chip w; entry = e } ∷ []
 asks4 chip w (ByAr op) e = []
-asks4 chip w (Refused n) e = []
+asks4 chip w (Refused q) e = []
 
 module _ (chip : Chip) (rom sheet : List ℕ) where
   abbrev pub rule4 : ℕ → Flow → Entry → Bool
@@ -106,7 +106,7 @@ module _ (chip : Chip) (rom sheet : List ℕ) where
   rule5 w ReadsTable e = true
   rule5 w (StandsBy rest) e = true
   rule5 w (ByAr op) e = true
-  rule5 w (Refused n) e = true
+  rule5 w (Refused q) e = true
 
 -- 6: RET and RETSK at "a lowest of at least 1"
 abbrev pub rule6 : Flow → Entry → Bool
@@ -118,7 +118,7 @@ rule6 (Returns skip) e = at_least 1 e
 rule6 ReadsTable e = true
 rule6 (StandsBy rest) e = true
 rule6 (ByAr op) e = true
-rule6 (Refused n) e = true
+rule6 (Refused q) e = true
 
 -- rules 3 to 6 are those of reached words
 abbrev pub where_reached : Chip → Entry → Bool → Bool

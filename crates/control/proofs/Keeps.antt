@@ -9,6 +9,7 @@ use Rattle.control.specs.declared.ArOp.{ArOp}
 use Rattle.control.specs.declared.ArOp.TheVariants as code
 use Rattle.control.specs.declared.Flow.{Flow}
 use Rattle.control.specs.declared.Flow.TheVariants.{Onward, Skips, Branches, Calls, Returns, ReadsTable, StandsBy, ByAr, Refused}
+use Rattle.machine.specs.Refusals.{number_of}
 use Rattle.machine.specs.declared.Control.{Control}
 
 abbrev pub Keeps : Control → Transfer → Type 0
@@ -47,4 +48,4 @@ module _ (chip : Chip) (c : Control) where
   keeps ReadsTable holds ar = full (onwards chip c)
   keeps (StandsBy rest) holds ar = gone c _
   keeps (ByAr op) holds ar = by_ar op ar
-  keeps (Refused n) holds ar = kept n c
+  keeps (Refused q) holds ar = kept (number_of q) c

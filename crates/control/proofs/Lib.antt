@@ -1,3 +1,4 @@
 pub mod Keeps
 pub mod Opcodes
 pub mod OneWord
+pub mod Numbers

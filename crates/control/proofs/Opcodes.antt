@@ -9,12 +9,13 @@ use Rattle.laws.proofs.Every.{every_at_lem}
 use Rattle.isa.specs.Answers.{Decoding}
 use Rattle.isa.specs.Decode.{columns, rows, group_of, entry_of, overview}
 use Rattle.isa.proofs.None.{is_none, is_none_lem}
+use Rattle.machine.specs.declared.Refusal.TheVariants.{NoInstruction}
 use Rattle.control.specs.Flow.{decoded_flow}
 use Rattle.control.specs.declared.Flow.{Flow}
 use Rattle.control.specs.declared.Flow.TheVariants.{Onward, Refused}
 
--- what is no instruction has refusal 3
-refused : (d : Decoding) → T (is_none d) → Refused 3 ≡ decoded_flow d
+-- what is no instruction is refused
+refused : (d : Decoding) → T (is_none d) → Refused NoInstruction ≡ decoded_flow d
 refused d t = ap decoded_flow (is_none_lem d t)
 
 -- the flow at a column, and at a row and column
@@ -44,14 +45,14 @@ module _ (m : ℕ) (small : m < 128) (rc : Rest column_keys (m % 16)) (ro : Rest
   left b t =
       or_else (has_any column_keys (m % 16)) b (no_key column_keys (m % 16) rc) (or_else (has_any operand_keys m) _ (no_key operand_keys m ro) t)
 
-  pub other_nibble : (x : ℕ) → x < 16 → (x ≡ 0 → ⊥) → Refused 3 ≡ group_flow x m
+  pub other_nibble : (x : ℕ) → x < 16 → (x ≡ 0 → ⊥) → Refused NoInstruction ≡ group_flow x m
   unfolding columns
   other_nibble zero h n = absurd (n refl)
   other_nibble (suc y) h n =
       let test : ℕ → ℕ → Bool = λ k j. has_any operand_keys k || (has_any column_keys (k % 16) || is_none (group_of k (suc j))) in
       refused (group_of m (suc y)) (left _ (every_at_lem (test m) 15 (every_at_lem (λ (k : ℕ). every (test k) 15) 128 tt m small) y (omega arith)))
 
-  pub other_fixed : Rest fixed_keys m → Refused 3 ≡ group_flow 0 m
+  pub other_fixed : Rest fixed_keys m → Refused NoInstruction ≡ group_flow 0 m
   unfolding columns
   other_fixed rf =
       refused (group_of m 0)
@@ -78,7 +79,7 @@ module _ (m x addr op : ℕ) (small : op < 32) where
       (or_else (leb 7 (op % 16)) (has_key arithmetic op) (λ t. let l = leb→le 7 (op % 16) t in omega arith)
       (every_at_lem (λ (k : ℕ). leb 7 (k % 16) || has_key arithmetic k) 32 tt op small)))
 
-  pub other_opcode : 7 ≤ op % 16 → Rest opcode_keys op → Refused 3 ≡ flow_by m x addr op
+  pub other_opcode : 7 ≤ op % 16 → Rest opcode_keys op → Refused NoInstruction ≡ flow_by m x addr op
   unfolding entry_of overview
   other_opcode h r =
       refused (entry_of op m x addr)

@@ -6,6 +6,7 @@ use Rattle.laws.specs.Wrap.{wrap_next}
 use Rattle.memory.specs.Chip.{Chip}
 use Rattle.machine.specs.declared.Control.{Control}
 use Rattle.machine.specs.Parts.{HALT, STOP}
+use Rattle.machine.specs.Refusals.{number_of}
 use Rattle.control.specs.declared.Rest.{Rest}
 use Rattle.control.specs.declared.Rest.TheVariants.{Halt, Stop}
 use Rattle.control.specs.declared.ArOp.{ArOp}
@@ -122,4 +123,4 @@ module _ (chip : Chip) where
   control_of ReadsTable holds ar c = table_of c
   control_of (StandsBy rest) holds ar c = standby_of (mark_of rest) c
   control_of (ByAr op) holds ar c = by_ar_of op ar c
-  control_of (Refused n) holds ar c = refused_control n c
+  control_of (Refused q) holds ar c = refused_control (number_of q) c

@@ -8,6 +8,7 @@ use Rattle.isa.specs.declared.FixedOp.{FixedOp}
 use Rattle.isa.specs.declared.FixedOp.TheVariants.{IncAr, IncIx, Movt, PushAr, PopAr, BrAr, CallAr, Ret, Retsk, Reti, Ei, Di, Nop}
 use Rattle.isa.specs.declared.Instruction.{Instruction}
 use Rattle.isa.specs.declared.Instruction.TheVariants.{AluRegister, AluImmediate, Skip, Rorc, Ld, St, MovToIndirect, MovFromIndirect, MovImmediate, Peek, Poke, Get, Put, Br, Call, Stop, Halt, Fixed}
+use Rattle.machine.specs.declared.Refusal.TheVariants.{NoInstruction, Unsupported, NoRegister}
 use Rattle.peripherals.specs.Registers.{in_file}
 use Rattle.peripherals.specs.Table.{TMC, TMM}
 use Rattle.control.specs.declared.ArOp.TheVariants as ar
@@ -17,11 +18,11 @@ use Rattle.control.specs.declared.Flow.TheVariants.{Onward, Skips, Branches, Cal
 
 -- refusal 4: EI, DI, RETI
 abbrev pub unsupported : Flow
-unsupported = Refused 4
+unsupported = Refused Unsupported
 
 -- refusal 30: "no such control register or peripheral", told by the word alone
 abbrev pub onward_if : Bool → Flow
-onward_if there = cond there Onward (Refused 30)
+onward_if there = cond there Onward (Refused NoRegister)
 
 -- PEEK and POKE
 abbrev pub file_flow : ℕ → Flow
@@ -72,7 +73,7 @@ flow_of (Fixed op) = fixed_flow op
 -- the flow of a word; refusal 3: the word is no instruction
 abbrev pub decoded_flow : Decoding → Flow
 decoded_flow (is i) = flow_of i
-decoded_flow (refused n) = Refused n
+decoded_flow (refused n) = Refused NoInstruction
 
 abbrev pub word_flow : ℕ → Flow
 word_flow word = decoded_flow (decode_of word)
@@ -87,4 +88,4 @@ reads_table (Returns skip) = false
 reads_table ReadsTable = true
 reads_table (StandsBy rest) = false
 reads_table (ByAr op) = false
-reads_table (Refused n) = false
+reads_table (Refused q) = false

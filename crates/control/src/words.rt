@@ -6,29 +6,23 @@ ghost use Rattle.isa.specs.Decode.{group_of};
 ghost use Rattle.control.specs.Flow.{decoded_flow, onward_if, reads_table, word_flow};
 
 use crate::{ArOp, Flow, Rest};
+use machine::Refusal;
 use peripherals::Peripherals;
-
-// Refusal 3: the word is no instruction.
-const NO_INSTRUCTION: u8 = 3;
-
-// Refusal 4: EI, DI, RETI.
-const UNSUPPORTED: u8 = 4;
-
-// Refusal 30: no such control register or peripheral.
-const NO_REGISTER: u8 = 30;
 
 // PEEK, POKE, GET and PUT, where there is such a register.
 fn onward_if(there: bool) -> Flow
     ensures { result ≡ onward_if there }
 {
     if there {
-        return Flow::Onward;
+        Flow::Onward
+    } else {
+        Flow::Refused(Refusal::NoRegister)
     }
-    Flow::Refused(NO_REGISTER)
 }
 
 // The words of opcode 7. POKE, PUT, PEEK and GET have their column alone fixed; RORC, STOP and HALT leave the low nibble to their
 // operand, and of the others it is 0.
+#[tactic(auto, unfolding(isa::specs::Decode::columns))]
 fn of_group(word: u16) -> Flow
     ensures { result ≡ decoded_flow (group_of (word / 16 % 128) (word % 16)) }
 {
@@ -49,7 +43,7 @@ fn of_group(word: u16) -> Flow
             0b011_1111 => Flow::StandsBy(Rest::Halt),
             _ => {
                 if word % 16 != 0 {
-                    return Flow::Refused(NO_INSTRUCTION);
+                    return Flow::Refused(Refusal::NoInstruction);
                 }
                 match m {
                     // MOVT
@@ -67,10 +61,10 @@ fn of_group(word: u16) -> Flow
                     0b000_1110 => Flow::Returns(false),
                     0b001_1110 => Flow::Returns(true),
                     // EI, DI, RETI
-                    0b000_1111 | 0b001_1111 | 0b100_1110 => Flow::Refused(UNSUPPORTED),
+                    0b000_1111 | 0b001_1111 | 0b100_1110 => Flow::Refused(Refusal::Unsupported),
                     // NOP
                     0b100_1111 => Flow::Onward,
-                    _ => Flow::Refused(NO_INSTRUCTION),
+                    _ => Flow::Refused(Refusal::NoInstruction),
                 }
             }
         },
@@ -78,6 +72,7 @@ fn of_group(word: u16) -> Flow
 }
 
 // The flow of a word.
+#[tactic(auto, unfolding(isa::specs::Decode::decode_of, isa::specs::Decode::entry_of, isa::specs::Decode::overview))]
 pub fn of_word(word: u16) -> Flow
     ensures { result ≡ word_flow word }
 {
@@ -96,7 +91,7 @@ pub fn of_word(word: u16) -> Flow
         // BR, CALL
         12 => Flow::Branches(word % 2048),
         28 => Flow::Calls(word % 2048),
-        _ => Flow::Refused(NO_INSTRUCTION),
+        _ => Flow::Refused(Refusal::NoInstruction),
     }
 }
 
