@@ -19,6 +19,11 @@ module _ (table : List ℕ) (e : Entry) where
   length_below zero = refl
   length_below (suc k) = length-set (nearest_below e k table) k _ ∙ length_below k
 
+  -- a depth that was not reached yet has what it had
+  pub later : (k d : ℕ) → k ≤ d → get_or (nearest_below e k table) d unreached ≡ get_or table d unreached
+  later zero d u = refl
+  later (suc k) d u = get_or-set_other (nearest_below e k table) k d _ unreached (λ q. omega arith) ∙ later k d (omega arith)
+
   at_depth : (k d : ℕ) → d < k → k ≤ length table → get_or (nearest_below e k table) d unreached ≡ nearest e d (get_or table d unreached)
   at_depth zero d l u = absurd (not-suc-le-zero l)
   at_depth (suc k) d l u =

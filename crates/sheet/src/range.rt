@@ -7,98 +7,84 @@ use crate::{Entry, UNREACHED};
 fn byte_at(sheet: &[u8], at: usize) -> u8
     ensures { result ≡ slice_index_or sheet.now at unreached }
 {
-    if sheet.len() <= at {
-        return UNREACHED;
-    }
-    sheet[at]
+    sheet.get(at).copied().unwrap_or(UNREACHED)
 }
 
 // The entry of a word. Past the sheet's end every byte is 15.
+#[tactic(auto, unfolding(crate::specs::Entry::entry_at))]
 pub fn entry_at(sheet: &[u8], word: u16) -> Entry
     ensures { result ≡ entry_at sheet.now word }
 {
-    let at = 2 * (word as usize);
+    let at = 2 * usize::from(word);
     Entry {
         lowest: byte_at(sheet, at),
         highest: byte_at(sheet, at + 1),
     }
 }
 
-// One level alone.
-pub fn single(level: u8) -> Entry
-    ensures { result ≡ singleOf level }
-{
-    Entry {
-        lowest: level,
-        highest: level,
+impl Entry {
+    // One level alone.
+    pub fn single(level: u8) -> Entry
+        ensures { result ≡ singleOf level }
+    {
+        Entry {
+            lowest: level,
+            highest: level,
+        }
     }
-}
 
-pub fn is_reached(most: u8, entry: Entry) -> bool
-    ensures { result ≡ reached most entry }
-{
-    if entry.highest < entry.lowest {
-        return false;
+    #[tactic(auto, unfolding(crate::specs::Entry::reached))]
+    pub fn is_reached(self, most: u8) -> bool
+        ensures { result ≡ reached most self }
+    {
+        self.lowest <= self.highest && self.highest <= most
     }
-    entry.highest <= most
-}
 
-pub fn is_proper(most: u8, entry: Entry) -> bool
-    ensures { result ≡ proper most entry }
-{
-    if is_reached(most, entry) {
-        return true;
+    #[tactic(auto, unfolding(crate::specs::Entry::proper))]
+    pub fn is_proper(self, most: u8) -> bool
+        ensures { result ≡ proper most self }
+    {
+        self.is_reached(most) || self == Entry::single(UNREACHED)
     }
-    if entry.lowest != UNREACHED {
-        return false;
-    }
-    entry.highest == UNREACHED
-}
 
-// Whether so many calls may be open at a word.
-pub fn has_depth(most: u8, entry: Entry, depth: u8) -> bool
-    ensures { result ≡ holds most entry depth }
-{
-    if !is_reached(most, entry) {
-        return false;
+    // Whether so many calls may be open at a word.
+    #[tactic(auto, unfolding(crate::specs::Entry::holds))]
+    pub fn has_depth(self, most: u8, depth: u8) -> bool
+        ensures { result ≡ holds most self depth }
+    {
+        self.is_reached(most) && self.lowest <= depth && depth <= self.highest
     }
-    if depth < entry.lowest {
-        return false;
-    }
-    depth <= entry.highest
-}
 
-// Whether an entry is reached and holds every depth of another.
-pub fn has_all_of(most: u8, entry: Entry, other: Entry) -> bool
-    ensures { result ≡ covers most entry other }
-{
-    if !is_reached(most, entry) {
-        return false;
+    // Whether an entry is reached and holds every depth of another.
+    #[tactic(auto, unfolding(crate::specs::Entry::covers))]
+    pub fn has_all_of(self, most: u8, other: Entry) -> bool
+        ensures { result ≡ covers most self other }
+    {
+        self.is_reached(most) && self.lowest <= other.lowest && other.highest <= self.highest
     }
-    if other.lowest < entry.lowest {
-        return false;
+
+    // One call more. A level that a byte can't hold goes on at 0.
+    #[tactic(auto, unfolding(crate::specs::Entry::raised_bytes))]
+    pub fn raised(self) -> Entry
+        ensures { result ≡ raised_bytes self }
+    {
+        Entry {
+            lowest: self.lowest.wrapping_add(1),
+            highest: self.highest.wrapping_add(1),
+        }
     }
-    other.highest <= entry.highest
-}
 
-// One call more. A level that a byte can't hold goes on at 0.
-pub fn raised(entry: Entry) -> Entry
-    ensures { result ≡ raised_bytes entry }
-{
-    Entry {
-        lowest: std::num::wrapping_add_u8(entry.lowest, 1),
-        highest: std::num::wrapping_add_u8(entry.highest, 1),
+    #[tactic(auto, unfolding(crate::specs::Entry::at_most))]
+    pub fn at_most(self, bound: u8) -> bool
+        ensures { result ≡ at_most bound self }
+    {
+        self.highest <= bound
     }
-}
 
-pub fn at_most(bound: u8, entry: Entry) -> bool
-    ensures { result ≡ at_most bound entry }
-{
-    entry.highest <= bound
-}
-
-pub fn at_least(bound: u8, entry: Entry) -> bool
-    ensures { result ≡ at_least bound entry }
-{
-    bound <= entry.lowest
+    #[tactic(auto, unfolding(crate::specs::Entry::at_least))]
+    pub fn at_least(self, bound: u8) -> bool
+        ensures { result ≡ at_least bound self }
+    {
+        bound <= self.lowest
+    }
 }

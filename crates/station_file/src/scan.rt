@@ -8,7 +8,7 @@ ghost use Rattle.station_file.specs.Places.{form_of, scanned, ScanFits, Passed, 
 
 use crate::forms::entry_bytes;
 use crate::{FileRefusal, Form, Test};
-use sheet::{Entry, is_proper, single};
+use sheet::Entry;
 
 // The highest level of a sheet in a file.
 const MOST_LEVEL: u8 = 5;
@@ -28,15 +28,13 @@ fn proper_entry(form: Form, before: u8, index: usize, byte: u8) -> bool
     ensures { result ≡ proper most_level (entry_to (form_of form) before index byte) }
 {
     if index % entry_bytes(form) == 0 {
-        return is_proper(MOST_LEVEL, single(byte));
+        return Entry::single(byte).is_proper(MOST_LEVEL);
     }
-    is_proper(
-        MOST_LEVEL,
-        Entry {
-            lowest: before,
-            highest: byte,
-        },
-    )
+    let entry = Entry {
+        lowest: before,
+        highest: byte,
+    };
+    entry.is_proper(MOST_LEVEL)
 }
 
 // So many bytes of a sheet.

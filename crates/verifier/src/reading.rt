@@ -7,7 +7,7 @@ ghost use Rattle.verifier.specs.ReturnDepths.{ReturnDepths};
 
 use control::Flow;
 use memory::Model;
-use sheet::{Entry, UNREACHED, entry_at, has_all_of, with_depths};
+use sheet::{Entry, UNREACHED, entry_at, with_depths};
 
 // What the rules read, for one model.
 #[derive(Clone, Copy)]
@@ -35,7 +35,7 @@ impl Check<'_> {
         ensures { result ≡ met (chip_of self.now.model) self.now.rom.now self.now.sheet.now (record { word = word; entry = asked }) }
     {
         (word as usize) < self.rom.len()
-            && has_all_of(self.model.levels(), entry_at(self.sheet, word), asked)
+            && entry_at(self.sheet, word).has_all_of(self.model.levels(), asked)
     }
 }
 

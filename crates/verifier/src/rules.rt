@@ -7,7 +7,7 @@ ghost use Rattle.clearance.specs.Rules.{all_met, met, rule1, rule2, rule3, rule4
 
 use crate::reading::{Check, Word};
 use control::{Flow, next};
-use sheet::{Entry, at_least, at_most, has_depth, is_proper, is_reached, raised, shares_any};
+use sheet::{Entry, shares_any};
 
 impl Check<'_> {
     // Rule 1, of word 0 only.
@@ -15,7 +15,7 @@ impl Check<'_> {
     fn rule_1(&self, at: Word) -> bool
         ensures { result ≡ rule1 (chip_of self.now.model) at.number at.entry }
     {
-        at.number != 0 || has_depth(self.model.levels(), at.entry, 0)
+        at.number != 0 || at.entry.has_depth(self.model.levels(), 0)
     }
 
     // Rule 2.
@@ -23,14 +23,14 @@ impl Check<'_> {
     fn rule_2(&self, at: Word) -> bool
         ensures { result ≡ rule2 (chip_of self.now.model) at.entry }
     {
-        is_proper(self.model.levels(), at.entry)
+        at.entry.is_proper(self.model.levels())
     }
 
     // Whether one level is free, whatever the depth.
     fn leaves_room(&self, entry: Entry) -> bool
         ensures { result ≡ at_most ((chip_of self.now.model).levels - 1) entry }
     {
-        at_most(self.model.levels() - 1, entry)
+        entry.at_most(self.model.levels() - 1)
     }
 
     // MOVT.
@@ -98,7 +98,7 @@ impl Check<'_> {
         if !self.leaves_room(entry) {
             return false;
         }
-        let higher = raised(entry);
+        let higher = entry.raised();
         self.is_met(to, higher)
             && (!shares_any(self.model.levels(), self.depths, higher)
                 || self.skipped_met(word, entry))
@@ -121,7 +121,7 @@ impl Check<'_> {
         requires { (1 ≤ rule) × (rule ≤ 6) }
         ensures { result ≡ rule_of (chip_of self.now.model) self.now.rom.now self.now.sheet.now at.number at.flow at.entry rule }
     {
-        let reached = is_reached(self.model.levels(), at.entry);
+        let reached = at.entry.is_reached(self.model.levels());
         match rule {
             1 => self.rule_1(at),
             2 => self.rule_2(at),
@@ -140,5 +140,5 @@ fn rule_6(at: Word) -> bool
     let Flow::Returns(_) = at.flow else {
         return true;
     };
-    at_least(1, at.entry)
+    at.entry.at_least(1)
 }
