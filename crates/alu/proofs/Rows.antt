@@ -1,45 +1,30 @@
 -- The rows of the maker's table: decimal and binary outcomes by computed tests, and the row of a difference by arithmetic.
 -- Assumes nothing.
 use mathlib.Core.Path.{◌≡◌, refl}
-use mathlib.Core.List.{List, [], ◌∷◌}
 use mathlib.Core.Bool.{Bool, true, false}
-use Prim.Native.Nat.{ℕ, zero, suc, ◌+◌, ◌-◌, ◌/◌, ◌%◌, ◌<◌, ◌≤◌}
+use Prim.Native.Nat.{ℕ, ◌+◌, ◌-◌, ◌%◌, ◌<◌, ◌≤◌}
 use native.Mathlib.Omega.{arith}
 use borrow.Author.Tests.{lt-ltb, le-ltb, leb-true, leb-false}
-use lib.Dec.{eqb, ltb, leb}
+use lib.Dec.{ltb, leb}
 use lib.ListN.{get_or}
 use mir.Val.{bool_byte}
 use Rattle.alu.specs.Decimal.{decimal_sum, decimal_difference, above19, above9, below_10}
 use Rattle.alu.specs.Difference.{difference_of}
 use Rattle.alu.specs.Results.{nibble, binary_difference}
 use Rattle.laws.specs.Bit.{bit}
-use Rattle.alu.specs.Rows.{sum_rows, difference_rows, row_difference}
+use Rattle.alu.specs.Rows.{sum_rows, difference_rows, row_difference, row_outcome}
 use Rattle.alu.specs.declared.Outcome.{Outcome}
 use Rattle.alu.proofs.Agree.{agree}
-use Rattle.laws.proofs.Arms.{Rest, has_any, no_key}
 use Rattle.laws.proofs.Bits.{byte_bit, byte_below}
-use Rattle.laws.proofs.Every.{every_at_lem}
-
--- what a row says: its fifth bit is CY
-abbrev pub outcome : ℕ → Outcome
-outcome bits = record { result = bits % 16; carry = eqb (bits / 16) 1 }
 
 -- the table's rule: at each row, in the table's order, a test is computed
-pub sum_rule : (row : ℕ) → row < 32 → outcome (get_or sum_rows row 0) ≡ decimal_sum row
+pub sum_rule : (row : ℕ) → row < 32 → row_outcome (get_or sum_rows row 0) ≡ decimal_sum row
 unfolding decimal_sum above19
-sum_rule = agree (λ (k : ℕ). outcome (get_or sum_rows k 0)) decimal_sum 32 tt
+sum_rule = agree (λ (k : ℕ). row_outcome (get_or sum_rows k 0)) decimal_sum 32 tt
 
-pub difference_rule : (row : ℕ) → row < 32 → outcome (get_or difference_rows row 0) ≡ decimal_difference (row_difference row)
+pub difference_rule : (row : ℕ) → row < 32 → row_outcome (get_or difference_rows row 0) ≡ decimal_difference (row_difference row)
 unfolding decimal_difference above9 below_10 row_difference
-difference_rule = agree (λ (k : ℕ). outcome (get_or difference_rows k 0)) (λ (k : ℕ). decimal_difference (row_difference k)) 32 tt
-
--- a match with an arm for each row comes to no other
-abbrev keys : ℕ → List (List ℕ)
-keys zero = []
-keys (suc n) = (n ∷ []) ∷ keys n
-
-pub no_other : {A : Type 0} (row : ℕ) → row < 32 → Rest (keys 32) row → A
-no_other row h r = absurd (no_key (keys 32) row r (every_at_lem (has_any (keys 32)) 32 tt row h))
+difference_rule = agree (λ (k : ℕ). row_outcome (get_or difference_rows k 0)) (λ (k : ℕ). decimal_difference (row_difference k)) 32 tt
 
 abbrev low : ℕ → Outcome
 low row = record { result = row % 16; carry = ltb 15 row }

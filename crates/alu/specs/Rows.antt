@@ -1,7 +1,8 @@
 -- The rows of the maker's table (source 001, table 5-2), in its order. A row is CY above the four bits of the result: 0x1E is 1 1110.
 -- Assumes nothing.
-use Rattle.std.specs.Prelude.{cond, List, [], ◌∷◌, ℕ, ◌-◌, ltb}
+use Rattle.std.specs.Prelude.{cond, List, [], ◌∷◌, ℕ, ◌-◌, ◌/◌, ◌%◌, eqb, ltb}
 use Rattle.alu.specs.Difference.{Difference, plus, minus}
+use Rattle.alu.specs.declared.Outcome.{Outcome}
 
 -- the sums 0 to 31
 abbrev pub sum_rows : List ℕ
@@ -14,3 +15,7 @@ difference_rows = 0x00 ∷ 0x01 ∷ 0x02 ∷ 0x03 ∷ 0x04 ∷ 0x05 ∷ 0x06 ∷
 -- the difference of a row
 unfoldable pub row_difference : ℕ → Difference
 row_difference n = cond (ltb n 16) (plus n) (minus (32 - n))
+
+-- what a row says: its fifth bit is CY
+abbrev pub row_outcome : ℕ → Outcome
+row_outcome bits = record { result = bits % 16; carry = eqb (bits / 16) 1 }

@@ -2,10 +2,9 @@
 
 #![tactic(auto)]
 
-ghost use Rattle.std.specs.Prelude.{◌≡◌, cond, ◌<◌};
+ghost use Rattle.std.specs.Prelude.{◌≡◌};
 ghost use Rattle.alu.specs.Results.{add_of, subtract_of, rotate_of, zero_of, condition_of};
-ghost use Rattle.alu.specs.Decimal.{decimal_sum, decimal_difference};
-ghost use Rattle.alu.specs.Rows.{row_difference};
+ghost use Rattle.alu.specs.Rows.{row_outcome};
 
 use crate::table::{difference, sum};
 use isa::SkipOp;
@@ -19,24 +18,23 @@ pub struct Outcome {
     pub carry: bool,
 }
 
-// The decimal correction of a row of the table: a sum, or a difference in the table's order.
-fn decimal(subtracts: bool, row: u8) -> Outcome
-    requires { row < 32 }
-    ensures { result ≡ cond subtracts (decimal_difference (row_difference row)) (decimal_sum row) }
+// The decimal correction, by what a row of the table prints.
+fn decimal(printed: u8) -> Outcome
+    ensures { result ≡ row_outcome printed }
 {
-    let printed = if subtracts { difference(row) } else { sum(row) };
     Outcome {
         result: printed % 16,
         carry: printed / 16 == 1,
     }
 }
 
+#[tactic(auto, using(laws::proofs::Bits::byte_bit, crate::proofs::Rows::sum_rule), unfolding(crate::specs::Results::add_of, crate::specs::Results::binary_sum))]
 pub fn add(bcd: bool, a: u8, b: u8, carry: bool) -> Outcome
     ensures { result ≡ add_of bcd a b carry }
 {
     let n = a % 16 + b % 16 + carry as u8;
     if bcd {
-        return decimal(false, n);
+        return decimal(sum(n));
     }
     Outcome {
         result: n % 16,
@@ -49,7 +47,7 @@ pub fn subtract(bcd: bool, a: u8, b: u8, carry: bool) -> Outcome
 {
     let row = (32 + a % 16 - b % 16 - carry as u8) % 32;
     if bcd {
-        return decimal(true, row);
+        return decimal(difference(row));
     }
     Outcome {
         result: row % 16,
@@ -58,6 +56,7 @@ pub fn subtract(bcd: bool, a: u8, b: u8, carry: bool) -> Outcome
 }
 
 // RORC: CY to bit 3, bit 0 to CY.
+#[tactic(auto, using(laws::proofs::Bits::byte_bit), unfolding(crate::specs::Results::rotate_of))]
 pub fn rotate(x: u8, carry: bool) -> Outcome
     ensures { result ≡ rotate_of x carry }
 {
@@ -68,6 +67,7 @@ pub fn rotate(x: u8, carry: bool) -> Outcome
 }
 
 // Z after an arithmetic result.
+#[tactic(auto, unfolding(crate::specs::Results::zero_of))]
 pub fn zero(cmp: bool, z: bool, res: u8) -> bool
     ensures { result ≡ zero_of cmp z res }
 {
@@ -81,6 +81,7 @@ pub fn zero(cmp: bool, z: bool, res: u8) -> bool
 }
 
 // Whether a skip's condition holds of the cell's nibble x.
+#[tactic(auto, unfolding(crate::specs::Results::condition_of))]
 pub fn skips(op: SkipOp, x: u8, n4: u8) -> bool
     ensures { result ≡ condition_of op x n4 }
 {
