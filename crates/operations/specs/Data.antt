@@ -5,6 +5,7 @@ use Rattle.std.specs.Prelude.{List, ℕ}
 use Rattle.memory.specs.Chip.{Chip}
 use Rattle.memory.specs.Read.{read_of}
 use Rattle.peripherals.specs.Directions.{directions_of}
+use Rattle.operations.specs.declared.Ports.{Ports}
 
 pub record Data : Type 0 where
   pub cells : List ℕ
@@ -13,6 +14,10 @@ pub record Data : Type 0 where
 
 abbrev pub data_at : List ℕ → List ℕ → List ℕ → Data
 data_at cells pins registers = record { cells = cells; pins = pins; registers = registers }
+
+-- the same, of the cells and what the code reads besides
+abbrev pub data_with : List ℕ → Ports → Data
+data_with cells ports = data_at cells ports.pins.now ports.registers.now
 
 -- a cell as an instruction reads it: "Port directions now come from the control registers" (document 02, E4)
 abbrev pub read_at : Chip → Data → ℕ → ℕ

@@ -5,9 +5,10 @@ ghost use Rattle.memory.specs.Cells.{is_set};
 ghost use Rattle.memory.specs.Chip.{chip_of};
 ghost use Rattle.memory.specs.Names.{RPL, BCD};
 ghost use Rattle.memory.specs.Write.{writes_applied};
-ghost use Rattle.operations.specs.Data.{data_at};
+ghost use Rattle.operations.specs.Data.{data_with};
 ghost use Rattle.operations.specs.Writes.{flags_after, arithmetic_writes, alu_writes};
 
+use crate::Ports;
 use crate::file::read;
 use alu::Outcome;
 use isa::AluOp;
@@ -58,18 +59,10 @@ fn subtract(model: Model, cells: &mut [u8; 128], at: u8, a: u8, b: u8, carry: bo
 }
 
 // An operation on what stands at an address and a second operand. Arithmetic sets flags, logic does not.
-pub fn operate(
-    model: Model,
-    cells: &mut [u8; 128],
-    pins: &[u8; 5],
-    registers: &[u8; 7],
-    op: AluOp,
-    at: u8,
-    b: u8,
-)
-    ensures { cells.new ≡ writes_applied (chip_of model) cells.old (alu_writes (chip_of model) (data_at cells.old pins.now registers.now) op at b) }
+pub fn operate(model: Model, cells: &mut [u8; 128], ports: Ports<'_>, op: AluOp, at: u8, b: u8)
+    ensures { cells.new ≡ writes_applied (chip_of model) cells.old (alu_writes (chip_of model) (data_with cells.old ports.entry) op at b) }
 {
-    let a = read(model, &*cells, pins, registers, at);
+    let a = read(model, &*cells, ports, at);
     match op {
         AluOp::Add => {
             add(model, cells, at, a, b, false);

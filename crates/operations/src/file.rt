@@ -5,37 +5,38 @@ ghost use Rattle.memory.specs.Names.{WR};
 ghost use Rattle.memory.specs.Write.{writes_applied, write_of};
 ghost use Rattle.peripherals.specs.Pace.{Quiet};
 ghost use Rattle.peripherals.specs.Parts.{with_timer};
-ghost use Rattle.operations.specs.Data.{data_at, read_at};
+ghost use Rattle.operations.specs.Data.{data_with, read_at};
 ghost use Rattle.operations.specs.Settings.{settings_of};
 ghost use Rattle.operations.specs.Writes.{file_at, poke_writes};
 
+use crate::Ports;
 use isa::Instruction;
 use memory::{Memory, Model};
 use peripherals::{Peripherals, Timer};
 
 // A cell, with the ports' directions from the control registers.
-pub fn read(model: Model, cells: &[u8; 128], pins: &[u8; 5], registers: &[u8; 7], at: u8) -> u8
-    ensures { result ≡ read_at (chip_of model) (data_at cells.now pins.now registers.now) at }
+pub fn read(model: Model, cells: &[u8; 128], ports: Ports<'_>, at: u8) -> u8
+    ensures { result ≡ read_at (chip_of model) (data_with cells.now ports.entry) at }
 {
-    let directions = peripherals::directions(*registers);
-    memory::read(model, cells, pins, &directions, at)
+    let directions = peripherals::directions(*ports.registers);
+    memory::read(model, cells, ports.pins, &directions, at)
 }
 
 // What stands in the register file.
-fn held(model: Model, cells: &[u8; 128], pins: &[u8; 5], registers: &[u8; 7], rf: u8) -> u8
-    ensures { result ≡ file_at (chip_of model) (data_at cells.now pins.now registers.now) rf }
+fn held(model: Model, cells: &[u8; 128], ports: Ports<'_>, rf: u8) -> u8
+    ensures { result ≡ file_at (chip_of model) (data_with cells.now ports.entry) rf }
 {
     if Peripherals::DATA <= rf {
-        return read(model, cells, pins, registers, rf);
+        return read(model, cells, ports, rf);
     }
-    peripherals::peek(*registers, rf)
+    peripherals::peek(*ports.registers, rf)
 }
 
 // PEEK: it goes to WR.
-pub fn peek(model: Model, cells: &mut [u8; 128], pins: &[u8; 5], registers: &[u8; 7], rf: u8)
-    ensures { cells.new ≡ write_of (chip_of model) cells.old WR (file_at (chip_of model) (data_at cells.old pins.now registers.now) rf) }
+pub fn peek(model: Model, cells: &mut [u8; 128], ports: Ports<'_>, rf: u8)
+    ensures { cells.new ≡ write_of (chip_of model) cells.old WR (file_at (chip_of model) (data_with cells.old ports.entry) rf) }
 {
-    let v = held(model, &*cells, pins, registers, rf);
+    let v = held(model, &*cells, ports, rf);
     memory::store(model, cells, Memory::WR, v);
 }
 

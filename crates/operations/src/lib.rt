@@ -15,6 +15,14 @@ pub use operands::{lacks, locate};
 pub use others::{rorc, skip, transfer};
 pub use written::writes;
 
+// What an instruction reads besides the cells: the pins of the ports, and the control registers, which give the ports' directions and are
+// what PEEK reads below 40H.
+#[derive(Clone, Copy)]
+pub struct Ports<'a> {
+    pub pins: &'a [u8; 5],
+    pub registers: &'a [u8; 7],
+}
+
 // The effective addresses of an instruction's operands: the cell that the result goes to, the cell that it is taken from, and the
 // register that gives @r its column. 128, which no cell has, where there is none.
 #[derive(Clone, Copy)]

@@ -2,11 +2,11 @@
 ghost use Rattle.std.specs.Prelude.{◌≡◌, cond};
 ghost use Rattle.memory.specs.Chip.{chip_of};
 ghost use Rattle.peripherals.specs.Registers.{is_data};
-ghost use Rattle.operations.specs.Data.{data_at};
+ghost use Rattle.operations.specs.Data.{data_with};
 ghost use Rattle.operations.specs.Operands.{address_in, addresses_of, indirect, lacks_at, no_cell};
 
-use crate::Addresses;
 use crate::file::read;
+use crate::{Addresses, Ports};
 use isa::Instruction;
 use memory::Model;
 use peripherals::Peripherals;
@@ -15,11 +15,11 @@ use peripherals::Peripherals;
 const NO_CELL: u8 = 128;
 
 // The address of @r.
-fn pointer(model: Model, cells: &[u8; 128], pins: &[u8; 5], registers: &[u8; 7], m: u8, r: u8) -> u8
-    ensures { result ≡ address_in (chip_of model) (data_at cells.now pins.now registers.now) (indirect m r) }
+fn pointer(model: Model, cells: &[u8; 128], ports: Ports<'_>, m: u8, r: u8) -> u8
+    ensures { result ≡ address_in (chip_of model) (data_with cells.now ports.entry) (indirect m r) }
 {
     let from = memory::register(cells, r);
-    let column = read(model, cells, pins, registers, from);
+    let column = read(model, cells, ports, from);
     memory::indirect(cells, m, column)
 }
 
@@ -52,11 +52,10 @@ fn file(rf: u8) -> u8
 pub fn locate(
     model: Model,
     cells: &[u8; 128],
-    pins: &[u8; 5],
-    registers: &[u8; 7],
+    ports: Ports<'_>,
     instruction: Instruction,
 ) -> Addresses
-    ensures { result ≡ addresses_of (chip_of model) (data_at cells.now pins.now registers.now) instruction }
+    ensures { result ≡ addresses_of (chip_of model) (data_with cells.now ports.entry) instruction }
 {
     match instruction {
         Instruction::AluRegister { op: _, r, m } => {
@@ -69,7 +68,7 @@ pub fn locate(
         Instruction::St { m, r } => both(memory::address(cells, m), memory::register(cells, r)),
         Instruction::MovToIndirect { r, m } => {
             Addresses {
-                to: pointer(model, cells, pins, registers, m, r),
+                to: pointer(model, cells, ports, m, r),
                 from: memory::address(cells, m),
                 pointer: memory::register(cells, r),
             }
@@ -77,7 +76,7 @@ pub fn locate(
         Instruction::MovFromIndirect { m, r } => {
             Addresses {
                 to: memory::address(cells, m),
-                from: pointer(model, cells, pins, registers, m, r),
+                from: pointer(model, cells, ports, m, r),
                 pointer: memory::register(cells, r),
             }
         }

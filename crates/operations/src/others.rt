@@ -4,11 +4,11 @@ ghost use Rattle.alu.specs.Results.{condition_of, rotate_of};
 ghost use Rattle.memory.specs.Chip.{chip_of};
 ghost use Rattle.memory.specs.Names.{CY};
 ghost use Rattle.memory.specs.Write.{writes_applied};
-ghost use Rattle.operations.specs.Data.{data_at, read_at};
+ghost use Rattle.operations.specs.Data.{data_with, read_at};
 ghost use Rattle.operations.specs.Writes.{flag, rotate_writes, skip_writes, transfer_writes};
 
-use crate::Addresses;
 use crate::file::read;
+use crate::{Addresses, Ports};
 use isa::SkipOp;
 use memory::{Memory, Model};
 
@@ -36,24 +36,23 @@ fn clear_cmp(model: Model, cells: &mut [u8; 128], op: SkipOp)
 pub fn skip(
     model: Model,
     cells: &mut [u8; 128],
-    pins: &[u8; 5],
-    registers: &[u8; 7],
+    ports: Ports<'_>,
     op: SkipOp,
     from: u8,
     n4: u8,
 ) -> bool
-    ensures { (cells.new ≡ writes_applied (chip_of model) cells.old (skip_writes cells.old op)) × (result ≡ condition_of op (read_at (chip_of model) (data_at cells.old pins.now registers.now) from) n4) }
+    ensures { (cells.new ≡ writes_applied (chip_of model) cells.old (skip_writes cells.old op)) × (result ≡ condition_of op (read_at (chip_of model) (data_with cells.old ports.entry) from) n4) }
 {
-    let x = read(model, &*cells, pins, registers, from);
+    let x = read(model, &*cells, ports, from);
     clear_cmp(model, cells, op);
     alu::skips(op, x, n4)
 }
 
 // RORC on what stands at an address.
-pub fn rorc(model: Model, cells: &mut [u8; 128], pins: &[u8; 5], registers: &[u8; 7], to: u8)
-    ensures { cells.new ≡ writes_applied (chip_of model) cells.old (rotate_writes cells.old to (rotate_of (read_at (chip_of model) (data_at cells.old pins.now registers.now) to) (flag cells.old CY))) }
+pub fn rorc(model: Model, cells: &mut [u8; 128], ports: Ports<'_>, to: u8)
+    ensures { cells.new ≡ writes_applied (chip_of model) cells.old (rotate_writes cells.old to (rotate_of (read_at (chip_of model) (data_with cells.old ports.entry) to) (flag cells.old CY))) }
 {
-    let x = read(model, &*cells, pins, registers, to);
+    let x = read(model, &*cells, ports, to);
     let carry = memory::is_set(&*cells, Memory::PSW, Memory::CY);
     let o = alu::rotate(x, carry);
     if to == Memory::PSW {
@@ -66,15 +65,9 @@ pub fn rorc(model: Model, cells: &mut [u8; 128], pins: &[u8; 5], registers: &[u8
 }
 
 // LD, ST and MOV: what stands at one address goes to the other.
-pub fn transfer(
-    model: Model,
-    cells: &mut [u8; 128],
-    pins: &[u8; 5],
-    registers: &[u8; 7],
-    a: Addresses,
-)
-    ensures { cells.new ≡ writes_applied (chip_of model) cells.old (transfer_writes (chip_of model) (data_at cells.old pins.now registers.now) a) }
+pub fn transfer(model: Model, cells: &mut [u8; 128], ports: Ports<'_>, a: Addresses)
+    ensures { cells.new ≡ writes_applied (chip_of model) cells.old (transfer_writes (chip_of model) (data_with cells.old ports.entry) a) }
 {
-    let moved = read(model, &*cells, pins, registers, a.from);
+    let moved = read(model, &*cells, ports, a.from);
     memory::store(model, cells, a.to, moved);
 }

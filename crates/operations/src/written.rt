@@ -4,11 +4,11 @@ ghost use Rattle.alu.specs.declared.Outcome.{Outcome};
 ghost use Rattle.memory.specs.Chip.{Chip, chip_of};
 ghost use Rattle.memory.specs.Names.{PSW};
 ghost use Rattle.memory.specs.Write.{touches};
-ghost use Rattle.operations.specs.Data.{Data, Sources, data_at};
+ghost use Rattle.operations.specs.Data.{Data, Sources, data_with};
 ghost use Rattle.operations.specs.Writes.{arithmetic_writes, from_to, poke_writes, result_writes, skip_writes, writes_at, writes_of};
 
-use crate::Addresses;
 use crate::operands::locate;
+use crate::{Addresses, Ports};
 use isa::{AluOp, FixedOp, Instruction, SkipOp};
 use memory::{Memory, Model};
 use peripherals::Peripherals;
@@ -95,14 +95,13 @@ fn fixed_writes(op: FixedOp, cell: u8) -> bool
 pub fn writes(
     model: Model,
     cells: &[u8; 128],
-    pins: &[u8; 5],
-    registers: &[u8; 7],
+    ports: Ports<'_>,
     instruction: Instruction,
     cell: u8,
 ) -> bool
-    ensures { (src : Sources) → result ≡ touches (writes_of (chip_of model) (data_at cells.now pins.now registers.now) instruction src) cell }
+    ensures { (src : Sources) → result ≡ touches (writes_of (chip_of model) (data_with cells.now ports.entry) instruction src) cell }
 {
-    let a = locate(model, cells, pins, registers, instruction);
+    let a = locate(model, cells, ports, instruction);
     match instruction {
         Instruction::AluRegister { op, r: _, m: _ } => result_writes(cells, op, a.to, cell),
         Instruction::AluImmediate { op, m: _, n4: _ } => result_writes(cells, op, a.to, cell),
