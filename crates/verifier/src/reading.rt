@@ -6,6 +6,7 @@ ghost use Rattle.clearance.specs.Rules.{is_return_skip, flow_at, met};
 ghost use Rattle.verifier.specs.ReturnDepths.{ReturnDepths};
 
 use control::Flow;
+use machine::Refusal;
 use memory::Model;
 use sheet::{Entry, UNREACHED, entry_at, with_depths};
 
@@ -44,7 +45,7 @@ pub(crate) fn flow_at(rom: &[u16], word: u16) -> Flow
     ensures { result ≡ flow_at rom.now word }
 {
     let Some(code) = rom.get(word as usize) else {
-        return Flow::Refused(3);
+        return Flow::Refused(Refusal::NoInstruction);
     };
     control::of_word(*code)
 }

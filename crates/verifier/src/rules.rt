@@ -115,7 +115,8 @@ impl Check<'_> {
         self.call_allowed(at.number, to, at.entry)
     }
 
-    // Whether a rule holds, by its number; rules 3 to 6 are those of reached words.
+    // Whether a rule holds; rules 3 to 6 are those of reached words. A rule goes by its number, since the paper numbers the rules and
+    // `verify` counts and names them so: an enum would need its numbers and its order besides.
     #[tactic(auto, unfolding(clearance::specs::Rules::rule_of))]
     pub(crate) fn rule_holds(&self, at: Word, rule: u8) -> bool
         requires { (1 ≤ rule) × (rule ≤ 6) }

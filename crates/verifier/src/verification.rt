@@ -32,9 +32,9 @@ pub fn verify(model: Model, rom: &[u16], sheet: &[u8]) -> Result<Verdict, CheckR
     };
     // Labelled loops that yield the first word and rule by `break`, as the scope paper has them; a `for` yields no value.
     let mut word: u16 = 0;
-    let verdict = 'words: loop {
+    'words: loop {
         if rom.len() <= word as usize {
-            break 'words Verdict::Pass;
+            break 'words Ok(Verdict::Pass);
         }
         let at = Word {
             number: word,
@@ -43,10 +43,9 @@ pub fn verify(model: Model, rom: &[u16], sheet: &[u8]) -> Result<Verdict, CheckR
         };
         'rules: for rule in 1..=6 {
             if !check.rule_holds(at, rule) {
-                break 'words Verdict::Fail { word, rule };
+                break 'words Ok(Verdict::Fail { word, rule });
             }
         }
         word += 1;
-    };
-    Ok(verdict)
+    }
 }
