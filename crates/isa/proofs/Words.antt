@@ -1,18 +1,13 @@
 -- The list's words (18.3) by family, as the encoder makes them.
 -- Assumes nothing.
 use mathlib.Core.Path.{◌≡◌, refl}
-use Prim.Native.Nat.{ℕ, ◌+◌, ◌*◌}
-use native.Mathlib.Omega.{arith}
+use Prim.Native.Nat.{ℕ, ◌+◌}
 use Rattle.isa.specs.declared.AluOp.{AluOp}
 use Rattle.isa.specs.declared.AluOp.TheVariants.{Add, AddC, Sub, SubC, Or, And, Xor}
 use Rattle.isa.specs.declared.SkipOp.{SkipOp}
 use Rattle.isa.specs.declared.SkipOp.TheVariants.{Skt, Skf, Ske, Skne, Skge, Sklt}
 use Rattle.isa.specs.declared.Instruction.TheVariants.{AluRegister, AluImmediate, Skip}
 use Rattle.isa.specs.Encode.{word_of, alu_code, skip_code, addressed}
-
--- row and column of an address side by side
-pub side_by_side : (op m x : ℕ) → op * 2048 + m * 16 + x ≡ addressed op m x
-side_by_side op m x = omega arith
 
 pub register : (op : AluOp) (r m : ℕ) → word_of (AluRegister op r m) ≡ addressed (alu_code op) m r
 unfolding word_of

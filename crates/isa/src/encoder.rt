@@ -5,6 +5,7 @@ ghost use Rattle.isa.specs.Encode.{encode_of, word_of, alu_code, skip_code, addr
 
 use crate::{AluOp, FixedOp, Instruction, SkipOp, TooLarge};
 
+#[tactic(auto, unfolding(crate::specs::Encode::word_of))]
 fn alu_code(op: AluOp) -> u16
     ensures { (result ≡ alu_code op) × (result < 7) }
 {
@@ -19,6 +20,7 @@ fn alu_code(op: AluOp) -> u16
     }
 }
 
+#[tactic(auto, unfolding(crate::specs::Encode::word_of))]
 fn skip_code(op: SkipOp) -> u16
     ensures { (result ≡ skip_code op) × (result < 32) }
 {
@@ -33,6 +35,7 @@ fn skip_code(op: SkipOp) -> u16
 }
 
 // The word of an instruction that has no operand.
+#[tactic(auto, unfolding(crate::specs::Encode::word_of))]
 fn fixed(op: FixedOp) -> u16
     ensures { result ≡ word_of (Instruction.Fixed op) }
 {
@@ -93,6 +96,7 @@ fn around(column: u16, p: u8) -> Result<u16, TooLarge>
 }
 
 // The word of an instruction.
+#[tactic(auto, unfolding(crate::specs::Encode::word_of, crate::specs::Encode::fits, crate::specs::Encode::encode_of))]
 pub fn encode(instruction: Instruction) -> Result<u16, TooLarge>
     ensures { encoding_of result ≡ encode_of instruction }
 {

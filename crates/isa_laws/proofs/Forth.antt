@@ -1,13 +1,14 @@
 -- The word of an instruction whose operands fit has 16 bits and decodes to the instruction.
 -- Assumes nothing.
 use mathlib.Core.Path.{◌≡◌, refl, sym, ◌∙◌}
-use mathlib.Core.Bool.{Bool, true, false, ◌&&◌}
+use mathlib.Core.Bool.{true, ◌&&◌}
 use Prim.Native.Nat.{ℕ, ◌+◌, ◌*◌, ◌/◌, ◌%◌, ◌<◌}
 use native.Mathlib.Omega.{arith}
 use borrow.Author.Tests.{ltb-true}
 use lib.Dec.{ltb, lit<}
 use mathlib.Core.List.{[]}
 use lib.ListN.{get_or}
+use Rattle.laws.proofs.Booleans.{both}
 use Rattle.isa.specs.Answers.{Decoding, is}
 use Rattle.isa.specs.Decode.{decode_of, entry_of, overview, columns, rows}
 use Rattle.isa.specs.Encode.{word_of, fits, code, addressed, jump, filed, alu_code, skip_code}
@@ -28,10 +29,6 @@ Reads w d = (w < 65536) × (decode_of w ≡ d)
 
 read_as : {w : ℕ} {d e : Decoding} → Reads w d → d ≡ e → Reads w e
 read_as r e = (r.0, r.1 ∙ e)
-
-both : (a b : Bool) → (a && b) ≡ true → (a ≡ true) × (b ≡ true)
-both true b e = (refl, e)
-both false b e = absurd (let z : ◌≡◌ {A = ℕ} 0 1 = cc in omega arith)
 
 fields : (op m x : ℕ) → op < 32 → m < 128 → x < 16 → Reads (addressed op m x) (entry_of op m x (m * 16 + x))
 unfolding decode_of
