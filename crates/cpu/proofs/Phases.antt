@@ -31,21 +31,21 @@ use Rattle.cpu.specs.Cycles.{next_cycles}
 use Rattle.cpu.specs.Joined.{whole_of, fetched_of}
 use Rattle.cpu.specs.Reply.{done, refused, Step, completed_step, standing_step, refused_step}
 use Rattle.cpu.specs.Step.{waits, ticked_by, stood_by, woken, unless_refused, decoded_of, pass_over, fetch_of, advance_of}
-use Rattle.cpu.specs.declared.Fetched.TheVariants.{Word, Past}
+use Rattle.std.specs.Prelude.{None, Some}
 
 -- what a fetch that is taken apart says
-fetched_past : (b : Bool) (w : ℕ) → cond b Past (Word w) ≡ Past → b ≡ true
+fetched_past : (b : Bool) (w : ℕ) → cond b None (Some w) ≡ None → b ≡ true
 fetched_past true w e = refl
 fetched_past false w e = absurd (let z : ◌≡◌ {A = ℕ} 0 1 = cc in omega arith)
 
-fetched_word : (b : Bool) (w v : ℕ) → cond b Past (Word w) ≡ Word v → (b ≡ false) × (w ≡ v)
+fetched_word : (b : Bool) (w v : ℕ) → cond b None (Some w) ≡ Some v → (b ≡ false) × (w ≡ v)
 fetched_word true w v e = absurd (let z : ◌≡◌ {A = ℕ} 0 1 = cc in omega arith)
 fetched_word false w v e = (refl, (cc))
 
-pub past_rom : (rom : List ℕ) (pc : ℕ) → fetched_of rom pc ≡ Past → leb (length rom) pc ≡ true
+pub past_rom : (rom : List ℕ) (pc : ℕ) → fetched_of rom pc ≡ None → leb (length rom) pc ≡ true
 past_rom rom pc e = fetched_past (leb (length rom) pc) (get_or rom pc 0) e
 
-pub word_at : (rom : List ℕ) (pc v : ℕ) → fetched_of rom pc ≡ Word v → (leb (length rom) pc ≡ false) × (get_or rom pc 0 ≡ v)
+pub word_at : (rom : List ℕ) (pc v : ℕ) → fetched_of rom pc ≡ Some v → (leb (length rom) pc ≡ false) × (get_or rom pc 0 ≡ v)
 word_at rom pc v e = fetched_word (leb (length rom) pc) (get_or rom pc 0) v e
 
 other : (b : Bool) (x y : Step) → b ≡ false → y ≡ cond b x y

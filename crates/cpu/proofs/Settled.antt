@@ -4,7 +4,9 @@ use mathlib.Core.Path.{◌≡◌, ◌∙◌, ap, refl, sym, subst}
 use mathlib.Core.Bool.{Bool, true, false}
 use mathlib.Core.List.{List}
 use Prim.Native.Nat.{ℕ}
-use lib.Dec.{eqb}
+use native.Mathlib.Omega.{arith}
+use Rattle.std.specs.Prelude.{cond, Result, Ok, Err}
+use Rattle.std.specs.Result.{IsErrAnd}
 use Rattle.isa.specs.declared.Instruction.{Instruction}
 use Rattle.memory.specs.Chip.{Chip}
 use Rattle.memory.specs.Registers.{ar_of}
@@ -16,15 +18,14 @@ use Rattle.machine.specs.Signals.{Signals}
 use Rattle.peripherals.specs.declared.Peripherals.{Peripherals}
 use Rattle.machine.specs.declared.Machine.{Machine}
 use Rattle.machine.specs.declared.Refusal.{Refusal}
-use Rattle.machine.specs.declared.Refusal.TheVariants.{OutOfRange, PastRom, NoInstruction, Unsupported, NoRegister, BadTarget, StackFull, StackEmpty, PastTable, MissingCell}
+use Rattle.machine.specs.declared.Refusal.TheVariants.{MissingCell}
 use Rattle.control.specs.Control.{Transfer, control_of, goes, onward_of, refused_control}
 use Rattle.control.specs.Flow.{flow_of}
 use Rattle.control.specs.Transfers.{transfer_of, with_stack}
 use Rattle.control.specs.declared.Flow.TheVariants.{Onward}
 use Rattle.control.specs.declared.Regs.{Regs}
-use Rattle.control.specs.declared.Transfer as code
-use Rattle.control.specs.declared.Transfer.TheVariants.{To, Refused}
 use Rattle.control.proofs.Keeps.{Keeps, keeps}
+use Rattle.control.proofs.Numbers.{number_not_0}
 use Rattle.operations.specs.Data.{Data}
 use Rattle.operations.specs.Operands.{addresses_of, lacks_at}
 use Rattle.operations.specs.Settings.{settings_of}
@@ -35,17 +36,22 @@ use Rattle.cpu.specs.Joined.{executed_of, whole_of}
 use Rattle.cpu.specs.Reply.{completed_step, refused_step}
 use Rattle.cpu.proofs.Lacking.{lacks}
 
-pub number_not_0 : (r : Refusal) → eqb (number_of r) 0 ≡ false
-number_not_0 OutOfRange = refl
-number_not_0 PastRom = refl
-number_not_0 NoInstruction = refl
-number_not_0 Unsupported = refl
-number_not_0 NoRegister = refl
-number_not_0 BadTarget = refl
-number_not_0 StackFull = refl
-number_not_0 StackEmpty = refl
-number_not_0 PastTable = refl
-number_not_0 MissingCell = refl
+-- a refusal that `?` hands on
+pub handed_on : {T : Type 0} (r : Result T Refusal) (q : Refusal) → IsErrAnd r (λ y. y ≡ q) → r ≡ Err q
+handed_on (Ok x) q h = absurd h
+handed_on (Err y) q h = ap Err h
+
+-- what the test for missing cells answers
+abbrev tried : Bool → Result (Unit {0}) Refusal
+tried lacking = cond lacking (Err MissingCell) (Ok tt)
+
+missing : (b : Bool) (q : Refusal) → Err q ≡ tried b → (b ≡ true) × (q ≡ MissingCell)
+missing true q e = (refl, cc)
+missing false q e = absurd (let z : ◌≡◌ {A = ℕ} 0 1 = cc in omega arith)
+
+there : (b : Bool) (u : Unit {0}) → Ok u ≡ tried b → b ≡ false
+there true u e = absurd (let z : ◌≡◌ {A = ℕ} 0 1 = cc in omega arith)
+there false u e = refl
 
 -- a skip's condition at the address that was found
 pub told : (chip : Chip) (d : Data) (i : Instruction) (a : Addresses) → a ≡ addresses_of chip d i → holds_at chip d a i ≡ holds_of chip d i
@@ -98,23 +104,29 @@ module _ (chip : Chip) (rom : List ℕ) (signals : Signals) (cells stack : List 
       rw (← e, number_not_0 q) (ap (λ (c : Control). refused_step (number_of q) (machine_of cells p c)) (k (number_not_0 q)))
 
   -- an instruction that writes no cell
-  pub moves : (q : code.Transfer) (left : List ℕ) → transfer_of left regs q ≡ shift → past_table rom (ar_of cells) (flow_of i) ≡ false
+  pub moves : (q : Result Regs Refusal) (left : List ℕ) → transfer_of left regs q ≡ shift → past_table rom (ar_of cells) (flow_of i) ≡ false
       → lacks_of chip rom signals i before ≡ false → cells ≡ written_of chip rom signals i before → executed_of cells left (settings_of cells p i) p regs q ≡ execute_of chip rom signals i before
-  moves (To r) left e t l h = completes cells left r e t l h
-  moves (Refused q) left e t l h = refuses q left e
+  moves (Ok r) left e t l h = completes cells left r e t l h
+  moves (Err q) left e t l h = refuses q left e
 
   -- an instruction with operands, at the addresses that were found, by whether the chip lacks a cell there
-  module _ (a : Addresses) (found : a ≡ addresses_of chip (data_of before signals) i) (b : Bool) (tested : b ≡ lacks_at chip a) where
-    pub lacked : b ≡ true → (q : code.Transfer) → q ≡ Refused MissingCell
+  module _ (a : Addresses) (found : a ≡ addresses_of chip (data_of before signals) i) where
+    pub lacked : (e : Refusal) → Err e ≡ tried (lacks_at chip a) → (q : Result Regs Refusal) → IsErrAnd q (λ y. y ≡ e)
         → executed_of cells stack (settings_of cells p i) p regs q ≡ execute_of chip rom signals i before
-    lacked l q e = rw e (lacks chip rom signals before i (lacking a found (sym tested ∙ l)))
+    lacked e t q h =
+        let m = missing (lacks_at chip a) e t in
+        rw (handed_on q e h, m.1) (lacks chip rom signals before i (lacking a found m.0))
 
     -- it goes on to the next word
-    pub carried : b ≡ false → (k : Instruction) → i ≡ k → flow_of k ≡ Onward → (after : List ℕ) (r : Regs)
+    pub carried : (u : Unit {0}) → Ok u ≡ tried (lacks_at chip a) → (k : Instruction) → i ≡ k → flow_of k ≡ Onward → (after : List ℕ) (r : Regs)
         → goes (with_stack stack r) ≡ onward_of chip false (with_stack stack regs)
         → after ≡ writes_applied chip cells (writes_at chip (data_of before signals) a k (sources_of rom before))
-        → executed_of after stack (settings_of cells p i) p regs (To r) ≡ execute_of chip rom signals i before
+        → executed_of after stack (settings_of cells p i) p regs (Ok r) ≡ execute_of chip rom signals i before
     unfolding transfer_by control_of past_table
-    carried l k e f after r g h =
+    carried u t k e f after r g h =
         let onto : flow_of i ≡ Onward = ap flow_of e ∙ f in
-        completes after stack r (rw onto g) (rw onto) (lacking a found (sym tested ∙ l)) (written a found after (rw e h))
+        completes after stack r (rw onto g) (rw onto) (lacking a found (there (lacks_at chip a) u t)) (written a found after (rw e h))
+
+    -- a cell is there that the chip has
+    pub held : (u : Unit {0}) → Ok u ≡ tried (lacks_at chip a) → lacks_of chip rom signals i before ≡ false
+    held u t = lacking a found (there (lacks_at chip a) u t)

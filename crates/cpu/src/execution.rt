@@ -1,48 +1,48 @@
 // One instruction, on the cells and the stack where they stand.
-ghost use Rattle.std.specs.Prelude.{◌≡◌, List, ℕ};
+ghost use Rattle.std.specs.Prelude.{◌≡◌, List, ℕ, cond, Ok, Err};
 ghost use Rattle.memory.specs.Chip.{chip_of};
 ghost use Rattle.machine.specs.Signals.{Signals};
 ghost use Rattle.machine.specs.declared.Refusal.TheVariants.{MissingCell};
-ghost use Rattle.control.specs.declared.Transfer.TheVariants.{Refused};
 ghost use Rattle.peripherals.specs.Parts.{with_timer};
 ghost use Rattle.peripherals.specs.declared.Peripherals.{Peripherals as Parts};
+ghost use Rattle.operations.specs.Operands.{lacks_at};
 ghost use Rattle.operations.specs.Settings.{settings_of};
 ghost use Rattle.cpu.specs.Joined.{executed_of, signals_at, whole_of};
 ghost use Rattle.cpu.specs.Execute.{execute_of};
 
-use control::{Regs, Transfer};
+use crate::stepping::fetch;
+use control::Regs;
 use isa::{FixedOp, Instruction};
 use machine::{Machine, Refusal};
 use memory::Model;
+use operations::{Addresses, Ports};
 use peripherals::{Peripherals, Timer};
 
 // MOVT: refusal 6 comes before 8.
-fn movt(model: Model, rom: &[u16], cells: &mut [u8; 128], regs: Regs) -> Transfer
+fn movt(model: Model, rom: &[u16], cells: &mut [u8; 128], regs: Regs) -> Result<Regs, Refusal>
     ensures { (signals : Signals) (p : Parts) (stack : List ℕ) → executed_of cells.new stack p p regs result ≡ execute_of (chip_of model) rom.now signals (Instruction.Fixed FixedOp.Movt) (whole_of cells.old stack p regs) }
 {
-    let transfer = control::table(model, regs);
-    let Transfer::To(next) = transfer else {
-        return transfer;
+    let next = control::table(model, regs)?;
+    let Some(word) = fetch(rom, memory::ar(&*cells)) else {
+        return Err(Refusal::PastTable);
     };
-    let ar = memory::ar(&*cells) as usize;
-    if rom.len() <= ar {
-        return Transfer::Refused(Refusal::PastTable);
-    }
-    *cells = memory::write_buffer(model, *cells, rom[ar]);
-    Transfer::To(next)
+    *cells = memory::write_buffer(model, *cells, word);
+    Ok(next)
 }
 
 // POP AR: the address on the highest open level goes to AR.
-fn pop_ar(model: Model, cells: &mut [u8; 128], stack: &mut [u16; 5], regs: Regs) -> Transfer
+fn pop_ar(
+    model: Model,
+    cells: &mut [u8; 128],
+    stack: &mut [u16; 5],
+    regs: Regs,
+) -> Result<Regs, Refusal>
     ensures { (rom : List ℕ) (signals : Signals) (p : Parts) → executed_of cells.new stack.new p p regs result ≡ execute_of (chip_of model) rom signals (Instruction.Fixed FixedOp.PopAr) (whole_of cells.old stack.old p regs) }
 {
     let top = control::top(&*stack, regs);
-    let transfer = control::pop(model, stack, regs);
-    let Transfer::To(next) = transfer else {
-        return transfer;
-    };
+    let next = control::pop(model, stack, regs)?;
     *cells = memory::write_ar(model, *cells, top);
-    Transfer::To(next)
+    Ok(next)
 }
 
 // An instruction without operand.
@@ -53,36 +53,40 @@ fn fixed(
     cells: &mut [u8; 128],
     stack: &mut [u16; 5],
     regs: Regs,
-) -> Transfer
+) -> Result<Regs, Refusal>
     ensures { (signals : Signals) (p : Parts) → executed_of cells.new stack.new p p regs result ≡ execute_of (chip_of model) rom.now signals (Instruction.Fixed op) (whole_of cells.old stack.old p regs) }
 {
     match op {
         FixedOp::IncAr => {
             *cells = memory::increment_ar(model, *cells);
-            return Transfer::To(control::onward(model, regs, false));
+            return Ok(control::onward(model, regs, false));
         }
         FixedOp::IncIx => {
             *cells = memory::increment_ix(model, *cells);
-            return Transfer::To(control::onward(model, regs, false));
+            return Ok(control::onward(model, regs, false));
         }
         FixedOp::Movt => return movt(model, rom, cells, regs),
         FixedOp::PushAr => return control::push(model, stack, regs, memory::ar(&*cells)),
         FixedOp::PopAr => return pop_ar(model, cells, stack, regs),
-        FixedOp::BrAr => return Transfer::To(control::jump(regs, memory::ar(&*cells))),
+        FixedOp::BrAr => return Ok(control::jump(regs, memory::ar(&*cells))),
         FixedOp::CallAr => return control::call(model, stack, regs, memory::ar(&*cells)),
         FixedOp::Ret => return control::ret(stack, regs, false),
         FixedOp::Retsk => return control::ret(stack, regs, true),
-        FixedOp::Reti => return Transfer::Refused(Refusal::Unsupported),
-        FixedOp::Ei => return Transfer::Refused(Refusal::Unsupported),
-        FixedOp::Di => return Transfer::Refused(Refusal::Unsupported),
-        FixedOp::Nop => return Transfer::To(control::onward(model, regs, false)),
+        FixedOp::Reti => return Err(Refusal::Unsupported),
+        FixedOp::Ei => return Err(Refusal::Unsupported),
+        FixedOp::Di => return Err(Refusal::Unsupported),
+        FixedOp::Nop => return Ok(control::onward(model, regs, false)),
     }
 }
 
-fn missing() -> Transfer
-    ensures { result ≡ Refused MissingCell }
+// Refusal 31: the chip lacks a cell at one of the addresses.
+fn present(model: Model, a: Addresses) -> Result<(), Refusal>
+    ensures { result ≡ cond (lacks_at (chip_of model) a) (Err MissingCell) (Ok tt) }
 {
-    Transfer::Refused(Refusal::MissingCell)
+    if operations::lacks(model, a) {
+        return Err(Refusal::MissingCell);
+    }
+    Ok(())
 }
 
 // An instruction, but for what it sets of the peripherals. Nothing is written before the test for missing cells. That stands in each
@@ -94,115 +98,92 @@ pub(crate) fn execute(
     cells: &mut [u8; 128],
     stack: &mut [u16; 5],
     regs: Regs,
-    pins: &[u8; 5],
-    registers: &[u8; 7],
+    ports: Ports<'_>,
     timer: Timer,
-) -> Transfer
-    ensures { (directions : List ℕ) (release pulse : ℕ) → executed_of cells.new stack.new (settings_of cells.old (with_timer registers.now timer) instruction) (with_timer registers.now timer) regs result ≡ execute_of (chip_of model) rom.now (signals_at pins.now directions release pulse) instruction (whole_of cells.old stack.old (with_timer registers.now timer) regs) }
+) -> Result<Regs, Refusal>
+    ensures { (directions : List ℕ) (release pulse : ℕ) → executed_of cells.new stack.new (settings_of cells.old (with_timer ports.entry.registers.now timer) instruction) (with_timer ports.entry.registers.now timer) regs result ≡ execute_of (chip_of model) rom.now (signals_at ports.entry.pins.now directions release pulse) instruction (whole_of cells.old stack.old (with_timer ports.entry.registers.now timer) regs) }
 {
-    let a = operations::locate(model, &*cells, pins, registers, instruction);
+    let a = operations::locate(model, &*cells, ports, instruction);
     match instruction {
         Instruction::AluRegister { op, r: _, m: _ } => {
-            if operations::lacks(model, a) {
-                return missing();
-            }
-            let b = operations::read(model, &*cells, pins, registers, a.from);
-            operations::operate(model, cells, pins, registers, op, a.to, b);
-            return Transfer::To(control::onward(model, regs, false));
+            present(model, a)?;
+            let b = operations::read(model, &*cells, ports, a.from);
+            operations::operate(model, cells, ports, op, a.to, b);
+            return Ok(control::onward(model, regs, false));
         }
         Instruction::AluImmediate { op, m: _, n4 } => {
-            if operations::lacks(model, a) {
-                return missing();
-            }
-            operations::operate(model, cells, pins, registers, op, a.to, n4);
-            return Transfer::To(control::onward(model, regs, false));
+            present(model, a)?;
+            operations::operate(model, cells, ports, op, a.to, n4);
+            return Ok(control::onward(model, regs, false));
         }
         Instruction::Skip { op, m: _, n4 } => {
-            if operations::lacks(model, a) {
-                return missing();
-            }
-            let holds = operations::skip(model, cells, pins, registers, op, a.from, n4);
-            return Transfer::To(control::onward(model, regs, holds));
+            present(model, a)?;
+            let holds = operations::skip(model, cells, ports, op, a.from, n4);
+            return Ok(control::onward(model, regs, holds));
         }
         Instruction::Rorc(_) => {
-            if operations::lacks(model, a) {
-                return missing();
-            }
-            operations::rorc(model, cells, pins, registers, a.to);
-            return Transfer::To(control::onward(model, regs, false));
+            present(model, a)?;
+            operations::rorc(model, cells, ports, a.to);
+            return Ok(control::onward(model, regs, false));
         }
         Instruction::Ld { r: _, m: _ } => {
-            if operations::lacks(model, a) {
-                return missing();
-            }
-            operations::transfer(model, cells, pins, registers, a);
-            return Transfer::To(control::onward(model, regs, false));
+            present(model, a)?;
+            operations::transfer(model, cells, ports, a);
+            return Ok(control::onward(model, regs, false));
         }
         Instruction::St { m: _, r: _ } => {
-            if operations::lacks(model, a) {
-                return missing();
-            }
-            operations::transfer(model, cells, pins, registers, a);
-            return Transfer::To(control::onward(model, regs, false));
+            present(model, a)?;
+            operations::transfer(model, cells, ports, a);
+            return Ok(control::onward(model, regs, false));
         }
         Instruction::MovToIndirect { r: _, m: _ } => {
-            if operations::lacks(model, a) {
-                return missing();
-            }
-            operations::transfer(model, cells, pins, registers, a);
-            return Transfer::To(control::onward(model, regs, false));
+            present(model, a)?;
+            operations::transfer(model, cells, ports, a);
+            return Ok(control::onward(model, regs, false));
         }
         Instruction::MovFromIndirect { m: _, r: _ } => {
-            if operations::lacks(model, a) {
-                return missing();
-            }
-            operations::transfer(model, cells, pins, registers, a);
-            return Transfer::To(control::onward(model, regs, false));
+            present(model, a)?;
+            operations::transfer(model, cells, ports, a);
+            return Ok(control::onward(model, regs, false));
         }
         Instruction::MovImmediate { m: _, n4 } => {
-            if operations::lacks(model, a) {
-                return missing();
-            }
+            present(model, a)?;
             memory::store(model, cells, a.to, n4);
-            return Transfer::To(control::onward(model, regs, false));
+            return Ok(control::onward(model, regs, false));
         }
         Instruction::Peek(rf) => {
-            if operations::lacks(model, a) {
-                return missing();
-            }
+            present(model, a)?;
             if !peripherals::in_file(rf) {
-                return Transfer::Refused(Refusal::NoRegister);
+                return Err(Refusal::NoRegister);
             }
-            operations::peek(model, cells, pins, registers, rf);
-            return Transfer::To(control::onward(model, regs, false));
+            operations::peek(model, cells, ports, rf);
+            return Ok(control::onward(model, regs, false));
         }
         Instruction::Poke(to) => {
-            if operations::lacks(model, a) {
-                return missing();
-            }
+            present(model, a)?;
             if !peripherals::in_file(to) {
-                return Transfer::Refused(Refusal::NoRegister);
+                return Err(Refusal::NoRegister);
             }
             operations::poke(model, cells, to);
-            return Transfer::To(control::onward(model, regs, false));
+            return Ok(control::onward(model, regs, false));
         }
         Instruction::Get(p) => {
             if p != Peripherals::TMC {
-                return Transfer::Refused(Refusal::NoRegister);
+                return Err(Refusal::NoRegister);
             }
             *cells = memory::write_low_byte(model, *cells, timer.counter);
-            return Transfer::To(control::onward(model, regs, false));
+            return Ok(control::onward(model, regs, false));
         }
         Instruction::Put(p) => {
             if p != Peripherals::TMM {
-                return Transfer::Refused(Refusal::NoRegister);
+                return Err(Refusal::NoRegister);
             }
-            return Transfer::To(control::onward(model, regs, false));
+            return Ok(control::onward(model, regs, false));
         }
         Instruction::Br(addr) => return control::branch(model, regs, addr),
         Instruction::Call(addr) => return control::call_in_reach(model, stack, regs, addr),
-        Instruction::Stop(_) => return Transfer::To(control::stand(model, regs, Machine::STOP)),
-        Instruction::Halt(_) => return Transfer::To(control::stand(model, regs, Machine::HALT)),
+        Instruction::Stop(_) => return Ok(control::stand(model, regs, Machine::STOP)),
+        Instruction::Halt(_) => return Ok(control::stand(model, regs, Machine::HALT)),
         Instruction::Fixed(op) => return fixed(model, rom, op, cells, stack, regs),
     }
 }

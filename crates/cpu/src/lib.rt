@@ -14,25 +14,22 @@ use machine::{Control, Machine, Refusal};
 use peripherals::{Peripherals, Timer};
 pub use running::{end_of, run, run_in_place, step, step_in_place};
 
-// What a step answers.
-#[derive(Clone, Copy)]
-pub enum Answer {
+// How a step ends that is not refused.
+#[derive(Clone, Copy, PartialEq, Eq)]
+pub enum Completion {
     Done,
     // The machine stays in standby: in STOP nothing has changed, in HALT the timer has moved.
     Standby,
-    Refused(Refusal),
 }
 
-impl Answer {
-    // 0 for a completed step, 255 for one that stays in standby, else the refusal.
-    pub fn number(self) -> u8
-        ensures { result ≡ reply_number (reply_of self) }
-    {
-        match self {
-            Answer::Done => 0,
-            Answer::Standby => 255,
-            Answer::Refused(refusal) => refusal.number(),
-        }
+// What a step answers, as a number: 0 for a completed step, 255 for one that stays in standby, else the refusal.
+pub fn reply_number(answer: Result<Completion, Refusal>) -> u8
+    ensures { result ≡ reply_number (reply_of answer) }
+{
+    match answer {
+        Ok(Completion::Done) => 0,
+        Ok(Completion::Standby) => 255,
+        Err(refusal) => u8::from(refusal),
     }
 }
 
@@ -51,7 +48,7 @@ pub struct Reached {
     pub peripherals: Peripherals,
     pub control: Control,
     pub count: Count,
-    pub answer: Answer,
+    pub answer: Result<Completion, Refusal>,
 }
 
 // The machine after a step, what the step counts for, and its answer.
@@ -59,52 +56,31 @@ pub struct Reached {
 pub struct Stepped {
     pub machine: Machine,
     pub count: Count,
-    pub answer: Answer,
+    pub answer: Result<Completion, Refusal>,
 }
 
-// How a run ended.
-#[derive(Clone, Copy)]
-pub enum End {
-    // At its budget or in standby.
-    Completed,
-    Refused(Refusal),
-}
-
-impl End {
-    // The refusal, 0 for none.
-    pub fn number(self) -> u8
-        ensures { result ≡ end_of self }
-    {
-        match self {
-            End::Completed => 0,
-            End::Refused(refusal) => refusal.number(),
-        }
+// How a run ended, as a number: the refusal, 0 for none.
+pub fn end_number(end: Result<(), Refusal>) -> u8
+    ensures { result ≡ end_of end }
+{
+    match end {
+        Ok(()) => 0,
+        Err(refusal) => u8::from(refusal),
     }
 }
 
-// The machine after a run, the steps that it completed with their cycles, and how it ended.
+// The machine after a run, the steps that it completed with their cycles, and how it ended: at its budget or in standby, or refused.
 #[derive(Clone, Copy)]
 pub struct Ran {
     pub machine: Machine,
     pub count: Count,
-    pub end: End,
+    pub end: Result<(), Refusal>,
 }
 
-// A step of a machine that does not stay in standby: where control goes, the timer before its cycles and how many these are, or why
-// it is refused.
+// A completed step of a machine that does not stay in standby: where control goes, the timer before its cycles and how many these are.
 #[derive(Clone, Copy)]
-enum Advanced {
-    OnTo {
-        regs: Regs,
-        timer: Timer,
-        cycles: u8,
-    },
-    Stopped(Refusal),
-}
-
-// What a fetch finds.
-#[derive(Clone, Copy)]
-enum Fetched {
-    Word(u16),
-    Past,
+struct Advanced {
+    regs: Regs,
+    timer: Timer,
+    cycles: u8,
 }

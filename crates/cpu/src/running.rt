@@ -10,40 +10,16 @@ ghost use Rattle.cpu.specs.Run.{run_of, ended};
 ghost use Rattle.cpu.specs.Step.{step_of};
 
 use crate::stepping::{advance, control_of, join, regs_of, stays_standing, stood};
-use crate::{Advanced, Answer, Count, End, Ran, Reached, Stepped};
+use crate::{Completion, Count, Ran, Reached, Stepped};
 use machine::{Control, Input, Machine, Refusal, ranges};
 use memory::Model;
 use peripherals::{Peripherals, join as whole, pace, timer_of};
 
 // How a run ends, by the answer that it stopped with.
-pub fn end_of(answer: Answer) -> End
+pub fn end_of(answer: Result<Completion, Refusal>) -> Result<(), Refusal>
     ensures { end_of result ≡ refusal_of (reply_of answer) }
 {
-    match answer {
-        Answer::Done => End::Completed,
-        Answer::Standby => End::Completed,
-        Answer::Refused(refusal) => End::Refused(refusal),
-    }
-}
-
-fn so_far(
-    peripherals: Peripherals,
-    control: Control,
-    steps: u32,
-    cycles: u32,
-    answer: Answer,
-) -> Reached
-    ensures { result ≡ record { peripherals = peripherals; control = control; count = record { steps = steps; cycles = cycles }; answer = answer } }
-{
-    Reached {
-        peripherals: peripherals,
-        control: control,
-        count: Count {
-            steps: steps,
-            cycles: cycles,
-        },
-        answer: answer,
-    }
+    answer.map(|_| ())
 }
 
 // Steps up to a refusal, standby or the budget, on the cells where they stand. The range is tested once; each step keeps it. It
@@ -61,39 +37,44 @@ fn go(
     ensures ran { ended result.count (refusal_of (reply_of result.answer)) (machine_of cells.new result.peripherals result.control) ≡ run_of (chip_of model) rom.now (signals input pulse) budget (machine_of cells.old peripherals control) }
     ensures stepped { budget ≡ 1 → reached_step cells.new result ≡ step_of (chip_of model) rom.now (signals input pulse) (machine_of cells.old peripherals control) }
 {
+    let came = Reached {
+        peripherals,
+        control,
+        count: Count {
+            steps: 0,
+            cycles: 0,
+        },
+        answer: Ok(Completion::Done),
+    };
     if 65535 < budget {
-        return so_far(
-            peripherals,
-            control,
-            0,
-            0,
-            Answer::Refused(Refusal::OutOfRange),
-        );
+        return Reached {
+            answer: Err(Refusal::OutOfRange),
+            ..came
+        };
     }
     if !ranges::all(model, rom, join(*cells, peripherals, control), input, pulse) {
-        return so_far(
-            peripherals,
-            control,
-            0,
-            0,
-            Answer::Refused(Refusal::OutOfRange),
-        );
+        return Reached {
+            answer: Err(Refusal::OutOfRange),
+            ..came
+        };
     }
     if budget == 0 {
-        return so_far(peripherals, control, 0, 0, Answer::Done);
+        return came;
     }
     let mut stack = control.stack;
     let mut regs = regs_of(control);
     if stays_standing(regs, input.release) {
-        let after = stood(regs.standby, peripherals, pulse);
-        return so_far(after, control, 0, 0, Answer::Standby);
+        return Reached {
+            peripherals: stood(regs.standby, peripherals, pulse),
+            answer: Ok(Completion::Standby),
+            ..came
+        };
     }
     let pins = input.pins;
     let mut registers = peripherals.registers;
     let mut timer = timer_of(peripherals);
-    let mut steps: u32 = 0;
     let mut cycles: u32 = 0;
-    while steps < budget {
+    for steps in 0..budget {
         match advance(
             model,
             rom,
@@ -104,51 +85,48 @@ fn go(
             &mut registers,
             timer,
         ) {
-            Advanced::OnTo {
-                regs: next,
-                timer: set,
-                cycles: took,
-            } => {
-                steps += 1;
-                cycles += took as u32;
-                regs = next;
-                timer = pace(&registers, set, took, pulse);
-                if next.standby != 0 {
-                    return so_far(
-                        whole(registers, timer),
-                        control_of(stack, next),
-                        steps,
-                        cycles,
-                        Answer::Done,
-                    );
+            Ok(step) => {
+                cycles += step.cycles as u32;
+                regs = step.regs;
+                timer = pace(&registers, step.timer, step.cycles, pulse);
+                if regs.standby != 0 {
+                    return Reached {
+                        peripherals: whole(registers, timer),
+                        control: control_of(stack, regs),
+                        count: Count {
+                            steps: steps + 1,
+                            cycles,
+                        },
+                        answer: Ok(Completion::Done),
+                    };
                 }
             }
-            Advanced::Stopped(refusal) => {
-                return so_far(
-                    whole(registers, timer),
-                    control_of(stack, regs),
-                    steps,
-                    cycles,
-                    Answer::Refused(refusal),
-                );
+            Err(refusal) => {
+                return Reached {
+                    peripherals: whole(registers, timer),
+                    control: control_of(stack, regs),
+                    count: Count { steps, cycles },
+                    answer: Err(refusal),
+                };
             }
         }
     }
-    so_far(
-        whole(registers, timer),
-        control_of(stack, regs),
-        steps,
-        cycles,
-        Answer::Done,
-    )
+    Reached {
+        peripherals: whole(registers, timer),
+        control: control_of(stack, regs),
+        count: Count {
+            steps: budget,
+            cycles,
+        },
+        answer: Ok(Completion::Done),
+    }
 }
 
 // The counted run.
 pub fn run(model: Model, rom: &[u16], machine: Machine, input: Input, pulse: u8, budget: u32) -> Ran
     ensures { run_of_ran result ≡ run_of (chip_of model) rom.now (signals input pulse) budget machine }
 {
-    let memory = machine.memory;
-    let mut cells = memory.cells;
+    let mut cells = machine.memory.cells;
     let last = go(
         model,
         rom,
@@ -159,12 +137,10 @@ pub fn run(model: Model, rom: &[u16], machine: Machine, input: Input, pulse: u8,
         pulse,
         budget,
     );
-    let answer = last.answer;
-    let count = last.count;
     Ran {
         machine: join(cells, last.peripherals, last.control),
-        count: count,
-        end: end_of(answer),
+        count: last.count,
+        end: end_of(last.answer),
     }
 }
 
@@ -189,8 +165,7 @@ pub fn step(model: Model, rom: &[u16], machine: Machine, input: Input, pulse: u8
     ensures stepped { step_of_stepped result ≡ step_of (chip_of model) rom.now (signals input pulse) machine }
     ensures cost { result.count ≡ step_cost (chip_of model) rom.now (signals input pulse) machine }
 {
-    let memory = machine.memory;
-    let mut cells = memory.cells;
+    let mut cells = machine.memory.cells;
     let one = go(
         model,
         rom,
@@ -201,12 +176,10 @@ pub fn step(model: Model, rom: &[u16], machine: Machine, input: Input, pulse: u8
         pulse,
         1,
     );
-    let answer = one.answer;
-    let cost = one.count;
     Stepped {
         machine: join(cells, one.peripherals, one.control),
-        count: cost,
-        answer: answer,
+        count: one.count,
+        answer: one.answer,
     }
 }
 

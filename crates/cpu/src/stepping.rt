@@ -12,55 +12,40 @@ ghost use Rattle.cpu.specs.Joined.{StaysQuiet, TakesCycles, advanced_of, fetched
 ghost use Rattle.control.specs.Transfers.{with_stack};
 ghost use Rattle.cpu.specs.Step.{advance_of};
 
+use crate::Advanced;
 use crate::execution::execute;
-use crate::{Advanced, Fetched};
-use control::{Regs, Transfer};
-use isa::Decoded;
+use control::Regs;
 use machine::{Control, Machine, Refusal};
 use memory::{Memory, Model};
+use operations::Ports;
 use peripherals::{Peripherals, Timer};
 
-// The word at an address.
-fn fetch(rom: &[u16], pc: u16) -> Fetched
-    ensures { result ≡ fetched_of rom.now pc }
+// The word at an address, or none past the ROM.
+pub(crate) fn fetch(rom: &[u16], at: u16) -> Option<u16>
+    ensures { result ≡ fetched_of rom.now at }
 {
-    let at = pc as usize;
-    if rom.len() <= at {
-        return Fetched::Past;
-    }
-    Fetched::Word(rom[at])
+    rom.get(at as usize).copied()
 }
 
 // MOVT takes two cycles, every other word one.
 fn word_cycles(word: u16) -> u8
     ensures { result ≡ cond (reads_table (word_flow word)) 2 1 }
 {
-    if control::reads_table(word) {
-        return 2;
-    }
-    1
+    if control::reads_table(word) { 2 } else { 1 }
 }
 
 // Whether the machine stays in standby.
 pub(crate) fn stays_standing(regs: Regs, release: u8) -> bool
     ensures { result ≡ (is_marked regs.standby && eqb release 0) }
 {
-    if regs.standby != 0 {
-        return release == 0;
-    }
-    false
+    regs.standby != 0 && release == 0
 }
 
 // Without the standby mark.
 fn woken(regs: Regs) -> Regs
     ensures { (stack : List ℕ) → with_stack stack result ≡ with_standby 0 (with_stack stack regs) }
 {
-    Regs {
-        pc: regs.pc,
-        levels: regs.levels,
-        skip: regs.skip,
-        standby: 0,
-    }
+    Regs { standby: 0, ..regs }
 }
 
 // A step of a machine in range that does not stay in standby, up to its last phase, the timer's. A skipped word is fetched and not
@@ -74,46 +59,44 @@ pub(crate) fn advance(
     pins: &[u8; 5],
     registers: &mut [u8; 7],
     timer: Timer,
-) -> Advanced
+) -> Result<Advanced, Refusal>
     ensures advanced { (directions : List ℕ) (release pulse : ℕ) → (is_marked regs.standby && eqb release 0) ≡ false → advanced_of pulse cells.new stack.new registers.new timer regs result ≡ advance_of (chip_of model) rom.now (signals_at pins.now directions release pulse) (whole_of cells.old stack.old (with_timer registers.old timer) regs) }
     ensures cost { TakesCycles (cycles_of (get_or rom.now regs.pc 0) regs.skip) result }
     ensures quiet { (pulse : ℕ) → Quiet (with_timer registers.old timer) pulse timer.quiet → StaysQuiet registers.new pulse result }
 {
-    let Fetched::Word(word) = fetch(rom, regs.pc) else {
-        return Advanced::Stopped(Refusal::PastRom);
+    let Some(word) = fetch(rom, regs.pc) else {
+        return Err(Refusal::PastRom);
     };
     let awake = woken(regs);
     if regs.skip != 0 {
-        return Advanced::OnTo {
+        return Ok(Advanced {
             regs: control::onward(model, awake, false),
-            timer: timer,
+            timer,
             cycles: 1,
-        };
+        });
     }
-    let Decoded::Instruction(instruction) = isa::decode(word) else {
-        return Advanced::Stopped(Refusal::NoInstruction);
+    let Some(instruction) = isa::decode(word) else {
+        return Err(Refusal::NoInstruction);
     };
-    match execute(
+    let next = execute(
         model,
         rom,
         instruction,
         cells,
         stack,
         awake,
-        pins,
-        &*registers,
+        Ports {
+            pins,
+            registers: &*registers,
+        },
         timer,
-    ) {
-        Transfer::To(next) => {
-            let set = operations::set(&*cells, registers, timer, instruction);
-            Advanced::OnTo {
-                regs: next,
-                timer: set,
-                cycles: word_cycles(word),
-            }
-        }
-        Transfer::Refused(refusal) => Advanced::Stopped(refusal),
-    }
+    )?;
+    let set = operations::set(&*cells, registers, timer, instruction);
+    Ok(Advanced {
+        regs: next,
+        timer: set,
+        cycles: word_cycles(word),
+    })
 }
 
 // A step that stays in standby: HALT's moves the timer by one cycle.
@@ -144,7 +127,7 @@ pub(crate) fn control_of(stack: [u16; 5], r: Regs) -> Control
 {
     Control {
         pc: r.pc,
-        stack: stack,
+        stack,
         levels: r.levels,
         skip: r.skip,
         standby: r.standby,
@@ -155,8 +138,8 @@ pub(crate) fn join(cells: [u8; 128], peripherals: Peripherals, control: Control)
     ensures { result ≡ machine_of cells peripherals control }
 {
     Machine {
-        memory: Memory { cells: cells },
-        peripherals: peripherals,
-        control: control,
+        memory: Memory { cells },
+        peripherals,
+        control,
     }
 }

@@ -85,18 +85,15 @@ module _ (h : At-loop-steps) where
 
 pub returns-then-budget-gt65535 : goal.returns-then-budget-gt65535
 returns-then-budget-gt65535 c =
-    let e = not_so_many _ _ _ _ _ c.if-budget-gt65535.true in
-    rw c.so_far.ensures (record { ran = e.run; stepped = e.step })
+    let e = not_so_many _ _ _ _ _ c.if-budget-gt65535.true in record { ran = e.run; stepped = e.step }
 
 pub returns-then-not-all : goal.returns-then-not-all
 returns-then-not-all c =
-    let e = not_in_range _ _ _ _ _ (tested _ _ _ _ _ c.join.ensures c.all.ensures ∙ not-true _ c.if-not-all.true-raw) in
-    rw c.so_far-then-not-all.ensures (record { ran = e.run; stepped = e.step })
+    let e = not_in_range _ _ _ _ _ (tested _ _ _ _ _ c.join.ensures c.all.ensures ∙ not-true _ c.if-not-all.true-raw) in record { ran = e.run; stepped = e.step }
 
 pub returns-then-budget-eq0 : goal.returns-then-budget-eq0
 returns-then-budget-eq0 c =
-    let e = no_budget _ _ _ _ _ (omega arith) (tested _ _ _ _ _ c.join.ensures c.all.ensures ∙ not-false _ c.if-not-all.false-raw) c.if-budget-eq0.true in
-    rw c.so_far-then-budget-eq0.ensures (record { ran = e.run; stepped = e.step })
+    let e = no_budget _ _ _ _ _ (omega arith) (tested _ _ _ _ _ c.join.ensures c.all.ensures ∙ not-false _ c.if-not-all.false-raw) c.if-budget-eq0.true in record { ran = e.run; stepped = e.step }
 
 pub returns-then-stays_standing : goal.returns-then-stays_standing
 returns-then-stays_standing c =
@@ -106,57 +103,48 @@ returns-then-stays_standing c =
     let mark = ap (λ (k : Control). k.standby) c.regs_of-regs.ensures in
     let stand : waits (chip_of s.model) s.rom.now given m ≡ true
     = ap (λ (k : ℕ). is_marked k && eqb s.input.release 0) (sym mark) ∙ sym c.stays_standing.ensures ∙ c.if-stays_standing.true in
-    let after = c.stood-after.ensures ∙ ap (λ (k : ℕ). cond (eqb k HALT) (tick_of s.peripherals 1 s.pulse) s.peripherals) mark in
-    let e = stays_so (chip_of s.model) s.rom.now given s.budget m (omega (arith, c.if-budget-gt65535.false)) (tested _ _ _ _ _ c.join.ensures c.all.ensures ∙ not-false _ c.if-not-all.false-raw) c.if-budget-eq0.false stand _ after in
-    rw c.so_far-then-stays_standing.ensures (record { ran = e.run; stepped = e.step })
+    let after = c.stood.ensures ∙ ap (λ (k : ℕ). cond (eqb k HALT) (tick_of s.peripherals 1 s.pulse) s.peripherals) mark in
+    let e = stays_so (chip_of s.model) s.rom.now given s.budget m (omega (arith, c.if-budget-gt65535.false)) (tested _ _ _ _ _ c.join.ensures c.all.ensures ∙ not-false _ c.if-not-all.false-raw) c.if-budget-eq0.false stand _ after in record { ran = e.run; stepped = e.step }
 
 pub loop-steps-init : goal.loop-steps-init
 loop-steps-init c =
     (λ directions release fine awake. begun _ _ _ _ _ (omega arith) fine awake, λ n few some. absurd (omega (arith, c.timer_of-timer.ensures.1, few, some)))
 
-pub overflow_add-steps : goal.overflow_add-steps
-overflow_add-steps c = omega (arith, c.loop-steps-test.true, c.if-budget-gt65535.false)
-
 pub overflow_add-cycles : goal.overflow_add-cycles
 overflow_add-cycles c =
     let h = (goal.at.overflow_add-cycles c).At-loop-steps in
-    let took = rw c.in-OnTo.is at c.advance.ensures.cost in
-    omega (arith, (head h).few, (head h).some, took, cycles_few (get_or (rom h) (here h).control.pc 0) (here h).control.skip, h.if-budget-gt65535.false)
+    omega (arith, (head h).few, (head h).some, c.in-Ok.ensures.cost, cycles_few (get_or (rom h) (here h).control.pc 0) (here h).control.skip, h.if-budget-gt65535.false)
 
-pub returns-then-next-ne0 : goal.returns-then-next-ne0
-returns-then-next-ne0 c =
-    let h = (goal.at.returns-then-next-ne0 c).At-loop-steps in
-    let g = c.in-OnTo.is in
-    let took = rw g at c.advance.ensures.cost in
-    let quiet = rw g at (c.advance.ensures.quiet (given h).pulse h.loop-steps.invariant.1) in
+pub returns-then-regs-ne0 : goal.returns-then-regs-ne0
+returns-then-regs-ne0 c =
+    let h = (goal.at.returns-then-regs-ne0 c).At-loop-steps in
+    let took = c.in-Ok.ensures.cost in
+    let quiet = c.in-Ok.ensures.quiet (given h).pulse h.loop-steps.invariant.1 in
     let ticked = ticked_so _ _ (given h).pulse _ _ _ quiet c.pace-timer.ensures.0 c.pace-timer.ensures.1 (rw took (cycles_some (get_or (rom h) (here h).control.pc 0) (here h).control.skip)) _ _ _ in
-    let e = ends h _ _ _ (stood _ _ _ _ _ _ _ (head h) c.loop-steps-test.true _ took _ (ticked ∙ rw g at (c.advance.ensures.advanced (given h).input.directions (given h).input.release (given h).pulse (head h).awake)) (is_marked_lem _ c.if-next-ne0.true)) in
-    rw (c.so_far-then-next-ne0.ensures, c.control_of.ensures, c.join-then-next-ne0.ensures) (record { ran = e.run; stepped = e.step })
-
-pub loop-steps-smaller : goal.loop-steps-smaller
-loop-steps-smaller c = omega arith
+    let e = ends h _ _ _ (stood _ _ _ _ _ _ _ (head h) c.loop-steps-test.true _ took _ (ticked ∙ c.in-Ok.ensures.advanced (given h).input.directions (given h).input.release (given h).pulse (head h).awake) (is_marked_lem _ c.if-regs-ne0.true)) in
+    rw (c.control_of.ensures, c.join-then-regs-ne0.ensures) (record { ran = e.run; stepped = e.step })
 
 pub loop-steps-preserved : goal.loop-steps-preserved
 loop-steps-preserved c =
     let h = (goal.at.loop-steps-preserved c).At-loop-steps in
-    let n = c.in-OnTo.is in
-    let took = rw n at c.advance.ensures.cost in
-    let quiet = rw n at (c.advance.ensures.quiet (given h).pulse h.loop-steps.invariant.1) in
+    let took = c.in-Ok.ensures.cost in
+    let quiet = c.in-Ok.ensures.quiet (given h).pulse h.loop-steps.invariant.1 in
     let ticked = ticked_so _ _ (given h).pulse _ _ _ quiet c.pace-timer.ensures.0 c.pace-timer.ensures.1 (rw took (cycles_some (get_or (rom h) (here h).control.pc 0) (here h).control.skip)) _ _ _ in (
       λ directions release fine awake.
           let g = h.loop-steps.invariant.0 directions release fine awake in
-          going _ _ _ _ _ _ _ g c.loop-steps-test.true (levels_fit (model h)) (ar_fits (model h)) _ took _ (ticked ∙ rw n at (c.advance.ensures.advanced directions release (given h).pulse g.awake)) (not_marked _ c.if-next-ne0.false),
+          going _ _ _ _ _ _ _ g c.loop-steps-test.true (levels_fit (model h)) (ar_fits (model h)) _ took _ (ticked ∙ c.in-Ok.ensures.advanced directions release (given h).pulse g.awake) (not_marked _ c.if-regs-ne0.false),
       still_quiet _ _ (given h).pulse _ _ _ quiet c.pace-timer.ensures.0 c.pace-timer.ensures.1,
     )
 
-pub returns-in-Stopped : goal.returns-in-Stopped
-returns-in-Stopped c =
-    let h = (goal.at.returns-in-Stopped c).At-loop-steps in
-    let e = ends h _ _ _ (refuses _ _ _ _ _ _ _ (head h) c.loop-steps-test.true _ _ (rw c.in-Stopped.is at (c.advance.ensures.advanced (given h).input.directions (given h).input.release (given h).pulse (head h).awake))) in
-    rw (c.so_far-in-Stopped.ensures, c.control_of-in-Stopped.ensures, c.join-in-Stopped.ensures) (record { ran = e.run; stepped = e.step })
+pub returns-in-Err : goal.returns-in-Err
+returns-in-Err c =
+    let h = (goal.at.returns-in-Err c).At-loop-steps in
+    let e = ends h _ _ _ (refuses _ _ _ _ _ _ _ (head h) c.loop-steps-test.true _ _ (c.in-Err.ensures.advanced (given h).input.directions (given h).input.release (given h).pulse (head h).awake)) in
+    rw (c.control_of-in-Err.ensures, c.join-in-Err.ensures) (record { ran = e.run; stepped = e.step })
 
 pub returns : goal.returns
 returns c =
     let h = (goal.at.returns c).At-loop-steps in
-    let e = ends h _ _ _ (used _ _ _ _ _ _ _ (head h) c.loop-steps-test.false) in
-    rw (c.so_far-2.ensures, c.control_of-2.ensures, c.join-2.ensures) (record { ran = e.run; stepped = e.step })
+    let all : h.loop-steps.steps ≡ budget h = omega (arith, c.loop-steps-test.false, (head h).some) in
+    let e = rw all at (ends h _ _ _ (used _ _ _ _ _ _ _ (head h) c.loop-steps-test.false)) in
+    rw (c.control_of-2.ensures, c.join-2.ensures) (record { ran = e.run; stepped = e.step })
