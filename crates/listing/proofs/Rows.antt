@@ -1,6 +1,6 @@
 -- What holds of each row, computed over the list.
 -- Assumes nothing.
-use Rattle.std.proofs.Common.{◌≡◌, ℕ, ◌%◌, ◌<◌, true, List, map, get_or, sym, refl, ap, ◌∙◌, mod-eq_of_lt}
+use Rattle.std.proofs.Common.{◌≡◌, ℕ, ◌%◌, ◌<◌, true, List, map, length, get_or, arith, sym, refl, ap, ◌∙◌, mod-eq_of_lt}
 use lib.ListN.{get_or-map}
 use Rattle.laws.proofs.Every.{holds}
 use Rattle.laws.proofs.Lists.{slice_index_inside}
@@ -8,7 +8,6 @@ use Rattle.isa_laws.proofs.Forth.{forth}
 use Rattle.isa.specs.Encode.{word_of, fits}
 use Rattle.isa.specs.declared.FixedOp.TheVariants.{Nop}
 use Rattle.listing.specs.declared.table.Fields.{Fields}
-use Rattle.listing.specs.declared.table.Format.TheVariants.{Plain}
 use Rattle.listing.specs.declared.table.Pattern.{Pattern}
 use Rattle.listing.specs.Patterns.{pattern_of, join_of}
 use Rattle.listing.specs.Table.{Row, plain, listing, row_at, fields, fields_in}
@@ -18,12 +17,21 @@ at_row : {A : Type 0} (f : Row → A) (k : ℕ) (d : A) → k < 47 → get_or (m
 unfolding listing
 at_row f k d h = slice_index_inside (map f listing) k d (f (plain Nop)) h ∙ get_or-map f listing k (plain Nop)
 
--- an element of the code's table, as the borrow checker reads it
-abbrev pub element : List Pattern → ℕ → Pattern
-element l k = get_or l k (0, Plain)
+-- an element of the code's table
+pub element_of : (l : List Pattern) (k : ℕ) (d : Pattern) → l ≡ map pattern_of listing → k < 47 → get_or l k d ≡ pattern_of (row_at k)
+element_of l k d e h = ap (λ (x : List Pattern). get_or x k d) e ∙ at_row pattern_of k d h
 
-pub element_of : (l : List Pattern) (k : ℕ) → l ≡ map pattern_of listing → k < 47 → element l k ≡ pattern_of (row_at k)
-element_of l k e h = ap (λ (x : List Pattern). element x k) e ∙ at_row pattern_of k (0, Plain) h
+pub all_rows : (l : List Pattern) → l ≡ map pattern_of listing → length l ≡ 47
+unfolding listing
+all_rows l e = ap length e
+
+-- what stands in the code's table at k is the pattern of row k
+pub its_pattern : (l : List Pattern) (n k : ℕ) (p : Pattern) → l ≡ map pattern_of listing → n ≡ k → n < length l → p ≡ get_or l n p
+    → (k < 47) × (p ≡ pattern_of (row_at k))
+its_pattern l n k p e q h at =
+    let all = all_rows l e in
+    let inside : k < 47 = omega (arith, all) in
+    (inside, at ∙ ap (λ (m : ℕ). get_or l m p) q ∙ element_of l k p e inside)
 
 -- what two functions make of the list they make of each row
 each : {A : Type 0} (f g : Row → A) → map f listing ≡ map g listing → (k : ℕ) → k < 47 → f (row_at k) ≡ g (row_at k)

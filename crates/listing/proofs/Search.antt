@@ -1,15 +1,15 @@
 -- The search for the row of a word.
 -- Assumes nothing.
-use Rattle.std.proofs.Common.{◌≡◌, ℕ, ◌<◌, Bool, true, not, List, map, sym, ap, ◌∙◌, zero-le, arith, lt-ltb, eq-eqb, ne_eqb}
+use Rattle.std.proofs.Common.{◌≡◌, ℕ, ◌<◌, Bool, true, not, sym, ap, ◌∙◌, zero-le, arith, lt-ltb, eq-eqb, ne_eqb}
 use Rattle.laws.proofs.First.{Clear, First, first_is}
 use Rattle.isa.specs.Encode.{word_of}
 use Rattle.listing.specs.declared.table.Fields.{Fields}
 use Rattle.listing.specs.declared.table.Pattern.{Pattern}
-use Rattle.listing.specs.Patterns.{pattern_of, join_of}
+use Rattle.listing.specs.Patterns.{pattern_of, join_of, fields_of}
 use Rattle.listing.specs.Rows.{listed, refused_word, stands, row_in, decoded_row_of}
-use Rattle.listing.specs.Table.{listing, row_at, fields_in}
+use Rattle.listing.specs.Table.{row_at, fields_in}
 use Rattle.listing.proofs.Formats.{in_fit}
-use Rattle.listing.proofs.Rows.{element, element_of, joins}
+use Rattle.listing.proofs.Rows.{joins}
 
 module _ (w : ℕ) where
   abbrev pub absent : ℕ → Bool
@@ -33,14 +33,12 @@ module _ (w : ℕ) where
       rw (← q)
 
   -- what the code compares with the word tells whether it stands in a row
-  module _ (k : ℕ) (h : k < 47) (l : List Pattern) (o : Fields) (v : ℕ) (el : l ≡ map pattern_of listing) (eo : o ≡ fields_in (element l k).1 w) (ev : v ≡ join_of (element l k) o) where
+  module _ (k : ℕ) (h : k < 47) (p : Pattern) (o : Fields) (v : ℕ) (ep : p ≡ pattern_of (row_at k)) (eo : o ≡ fields_of p w) (ev : v ≡ join_of p o) where
     operands : o ≡ fields_in (row_at k).format w
-    operands = eo ∙ ap (λ (q : Pattern). fields_in q.1 w) (element_of l k el h)
+    operands = eo ∙ ap (λ (q : Pattern). fields_of q w) ep
 
     value : v ≡ word_of ((row_at k).instruction (fields_in (row_at k).format w))
-    value =
-        ev ∙ (λ i. join_of (element_of l k el h i) (operands i))
-        ∙ joins k h (fields_in (row_at k).format w) (in_fit w (row_at k).format)
+    value = ev ∙ (λ i. join_of (ep i) (operands i)) ∙ joins k h (fields_in (row_at k).format w) (in_fit w (row_at k).format)
 
     pub found_at : Clear absent 0 k → v ≡ w → listed k o ≡ decoded_row_of w
     found_at c e = ap (listed k) operands ∙ found k h c (eq-eqb _ _ (sym value ∙ e))

@@ -1,16 +1,20 @@
 -- The word of a row with its operands.
 -- Assumes nothing.
-use Rattle.std.proofs.Common.{◌≡◌, ℕ, ◌<◌, Bool, true, false, ◌&&◌, T, eqb, List, map, sym, refl, ap, ◌∙◌, subst, arith, eqb→eq, lt-ltb, eq-eqb}
+use Rattle.std.proofs.Common.{◌≡◌, ℕ, ◌<◌, Bool, true, false, ◌&&◌, T, eqb, sym, refl, ap, ◌∙◌, subst, arith, eqb→eq, lt-ltb, le-ltb, eq-eqb, ◌≤◌}
 use Rattle.laws.proofs.Every.{and_left, and_right, passed, holds}
 use Rattle.isa.specs.Encode.{word_of, encode_of}
 use Rattle.listing.specs.declared.table.Fields.{Fields}
 use Rattle.listing.specs.declared.table.Format.{Format}
 use Rattle.listing.specs.declared.table.Pattern.{Pattern}
-use Rattle.listing.specs.Patterns.{pattern_of, join_of, same_fields}
+use Rattle.listing.specs.Patterns.{pattern_of, join_of, fields_of}
 use Rattle.listing.specs.Rows.{unused_zero, encoded, refused_row, encoded_row_of}
-use Rattle.listing.specs.Table.{listing, row_at, fields_in}
+use Rattle.listing.specs.Table.{row_at, fields_in}
 use Rattle.listing.proofs.Formats.{in_range, Fit, in_fit, same_fields_lem}
-use Rattle.listing.proofs.Rows.{element, element_of, range_of, joins, come_again}
+use Rattle.listing.proofs.Rows.{range_of, joins, come_again}
+
+-- what `==` of operands answers
+abbrev same_fields : Fields → Fields → Bool
+same_fields a b = eqb a.first b.first && (eqb a.second b.second && eqb a.addr b.addr)
 
 are_same : (a b : Fields) → T (same_fields a b) → a ≡ b
 are_same a b t =
@@ -46,12 +50,12 @@ module _ (k : ℕ) (h : k < 47) (o : Fields) where
       go false b e f = other (rw (lt-ltb k 47 h, e))
 
 -- the code's answers: operands that come back from the word have it, and any others do not
-module _ (k : ℕ) (h : k < 47) (l : List Pattern) (o f : Fields) (v : ℕ) (el : l ≡ map pattern_of listing) (ev : v ≡ join_of (element l k) o) (ef : f ≡ fields_in (element l k).1 v) where
+module _ (k : ℕ) (h : k < 47) (p : Pattern) (o f : Fields) (v : ℕ) (ep : p ≡ pattern_of (row_at k)) (ev : v ≡ join_of p o) (ef : f ≡ fields_of p v) where
   word : v ≡ join_of (pattern_of (row_at k)) o
-  word = ev ∙ ap (λ (q : Pattern). join_of q o) (element_of l k el h)
+  word = ev ∙ ap (λ (q : Pattern). join_of q o) ep
 
   back : f ≡ fields_in (row_at k).format v
-  back = ef ∙ ap (λ (q : Pattern). fields_in q.1 v) (element_of l k el h)
+  back = ef ∙ ap (λ (q : Pattern). fields_of q v) ep
 
   pub is_word : same_fields f o ≡ true → encoded v ≡ encoded_row_of k o
   is_word e =
@@ -67,3 +71,7 @@ module _ (k : ℕ) (h : k < 47) (l : List Pattern) (o f : Fields) (v : ℕ) (el 
       let a : same_fields f o ≡ true = subst (λ (x : Fields). same_fields x o ≡ true) (sym q) (same_all o) in
       absurd (let z : ◌≡◌ {A = ℕ} 0 1 = cc in omega arith))
       (λ n. sym n)
+
+pub no_row : (k : ℕ) (o : Fields) → 47 ≤ k → refused_row 1 ≡ encoded_row_of k o
+unfolding encoded_row_of
+no_row k o h = rw (le-ltb k 47 h)

@@ -1,54 +1,63 @@
 // From a row and its operands to the word.
 ghost use Rattle.std.specs.Prelude.{◌≡◌};
-ghost use Rattle.listing.specs.Patterns.{same_fields};
+ghost use Rattle.listing.specs.Patterns.{number_of, encoded_row};
 ghost use Rattle.listing.specs.Table.{fields};
-ghost use Rattle.listing.specs.Rows.{encoded_row_of, encoded, refused_row};
+ghost use Rattle.listing.specs.Rows.{encoded_row_of};
 
 use crate::EncodedRow;
-use crate::table::{Fields, ROWS, fields_in, join, patterns};
+use crate::table::{Fields, patterns};
 
-fn refused(number: u8) -> EncodedRow
-    ensures { result ≡ refused_row number }
-{
-    EncodedRow {
-        number: number,
-        word: 0,
+// Why a row and its operands have no word.
+#[derive(Clone, Copy, Debug, PartialEq, Eq)]
+enum NoWord {
+    // The row is past the list.
+    NoRow,
+    // An operand is too large, or one that the row lacks.
+    TooLarge,
+}
+
+impl From<NoWord> for u8 {
+    ghost from_gives = { λ refusal number. number ≡ number_of refusal };
+
+    fn from(refusal: NoWord) -> u8
+        ensures { result ≡ number_of refusal }
+    {
+        match refusal {
+            NoWord::NoRow => 1,
+            NoWord::TooLarge => 10,
+        }
     }
 }
 
-fn same(a: Fields, b: Fields) -> bool
-    ensures { result ≡ same_fields a b }
+// Operands that are too large for their fields, or have none, do not come back from the word.
+fn word_of(row: u8, operands: Fields) -> Result<u16, NoWord>
+    ensures { encoded_row result ≡ encoded_row_of row operands }
 {
-    if a.first != b.first {
-        return false;
+    let table = patterns();
+    let pattern = table.get(usize::from(row)).ok_or(NoWord::NoRow)?;
+    let word = pattern.join(operands);
+    let back = pattern.fields_in(word);
+    if back == operands {
+        Ok(word)
+    } else {
+        Err(NoWord::TooLarge)
     }
-    if a.second != b.second {
-        return false;
-    }
-    a.addr == b.addr
 }
 
-// The word of a row and its operands: 1 for a row past the list, 10 for an operand too large, or one that the row lacks.
+// The word of a row and its operands, as C reads it.
 pub fn encode(row: u8, first: u8, second: u8, addr: u16) -> EncodedRow
     ensures { result ≡ encoded_row_of row (fields first second addr) }
 {
-    if ROWS <= row {
-        return refused(1);
-    }
-    let table = patterns();
-    let pattern = table[row as usize];
-    let format = pattern.1;
     let operands = Fields {
-        first: first,
-        second: second,
-        addr: addr,
+        first,
+        second,
+        addr,
     };
-    let word = join(pattern, operands);
-    if same(fields_in(format, word), operands) {
-        return EncodedRow {
-            number: 0,
-            word: word,
-        };
+    match word_of(row, operands) {
+        Ok(word) => EncodedRow { number: 0, word },
+        Err(refusal) => EncodedRow {
+            number: u8::from(refusal),
+            word: 0,
+        },
     }
-    refused(10)
 }

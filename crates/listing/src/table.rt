@@ -1,7 +1,7 @@
 // The list of the instruction set (18.3), row by row: the one table for both ways.
 ghost use Rattle.std.specs.Prelude.{◌≡◌, map};
 ghost use Rattle.listing.specs.Table.{fields, fields_in, listing};
-ghost use Rattle.listing.specs.Patterns.{pattern_of, placed_by, join_of};
+ghost use Rattle.listing.specs.Patterns.{pattern_of, placed_by, join_of, fields_of};
 
 // Where the operands of a row stand in its words; the other bits are the row's own.
 #[derive(Clone, Copy)]
@@ -20,11 +20,76 @@ pub enum Format {
     Target,
 }
 
+// The operands of a word, those that its format lacks 0.
+#[derive(Clone, Copy, Debug, PartialEq, Eq)]
+pub struct Fields {
+    pub first: u8,
+    pub second: u8,
+    pub addr: u16,
+}
+
+fn operands(first: u8, second: u8, addr: u16) -> Fields
+    ensures { result ≡ fields first second addr }
+{
+    Fields {
+        first,
+        second,
+        addr,
+    }
+}
+
+impl Format {
+    // What stands in the fields of a word.
+    fn fields_in(self, word: u16) -> Fields
+        ensures { result ≡ fields_in self word }
+    {
+        let m = (word / 16 % 128) as u8;
+        let x = (word % 16) as u8;
+        match self {
+            Format::Plain => operands(0, 0, 0),
+            Format::Rm => operands(x, m, 0),
+            Format::Mn => operands(m, x, 0),
+            Format::Nibble => operands(x, 0, 0),
+            Format::Split => operands((word / 256 % 8 * 16 + word % 16) as u8, 0, 0),
+            Format::Target => operands(0, 0, word % 2048),
+        }
+    }
+
+    // The operands' part of a word.
+    fn placed(self, operands: Fields) -> u16
+        ensures { result ≡ placed_by self operands }
+    {
+        let first = u16::from(operands.first);
+        let second = u16::from(operands.second);
+        match self {
+            Format::Plain => 0,
+            Format::Rm => second * 16 + first,
+            Format::Mn => first * 16 + second,
+            Format::Nibble => first,
+            Format::Split => first / 16 * 256 + first % 16,
+            Format::Target => operands.addr,
+        }
+    }
+}
+
 // The machine code of a row, its operands 0, and the format.
 #[derive(Clone, Copy)]
-pub struct Pattern(pub u16, pub Format);
+pub struct Pattern(u16, Format);
 
-pub const ROWS: u8 = 47;
+impl Pattern {
+    pub(crate) fn fields_in(self, word: u16) -> Fields
+        ensures { result ≡ fields_of self word }
+    {
+        self.1.fields_in(word)
+    }
+
+    // The word of a row with its operands, cut to 16 bits: operands that are too large for their fields do not come back from it.
+    pub(crate) fn join(self, operands: Fields) -> u16
+        ensures { result ≡ join_of self operands }
+    {
+        self.0.wrapping_add(self.1.placed(operands))
+    }
+}
 
 const LISTING: [Pattern; 47] = [
     // Add
@@ -87,67 +152,10 @@ const LISTING: [Pattern; 47] = [
     Pattern(0b00111_100_1111_0000, Format::Plain), // NOP
 ];
 
-// The operands of a word, those that its format lacks 0.
-#[derive(Clone, Copy)]
-pub struct Fields {
-    pub first: u8,
-    pub second: u8,
-    pub addr: u16,
-}
-
 // The list as a value: a constant array of structs is built where it is named, so name it once and not for each row.
+#[tactic(auto, unfolding(crate::specs::Table::listing, isa::specs::Encode::word_of))]
 pub(crate) fn patterns() -> [Pattern; 47]
     ensures { result ≡ map pattern_of listing }
 {
     LISTING
-}
-
-fn operands(first: u8, second: u8, addr: u16) -> Fields
-    ensures { result ≡ fields first second addr }
-{
-    Fields {
-        first: first,
-        second: second,
-        addr: addr,
-    }
-}
-
-// What stands in the fields of a word.
-pub(crate) fn fields_in(format: Format, word: u16) -> Fields
-    ensures { result ≡ fields_in format word }
-{
-    let m = (word / 16 % 128) as u8;
-    let x = (word % 16) as u8;
-    match format {
-        Format::Plain => operands(0, 0, 0),
-        Format::Rm => operands(x, m, 0),
-        Format::Mn => operands(m, x, 0),
-        Format::Nibble => operands(x, 0, 0),
-        Format::Split => operands((word / 256 % 8 * 16 + word % 16) as u8, 0, 0),
-        Format::Target => operands(0, 0, word % 2048),
-    }
-}
-
-// The operands' part of a word.
-fn placed(format: Format, operands: Fields) -> u16
-    ensures { result ≡ placed_by format operands }
-{
-    let first = operands.first as u16;
-    let second = operands.second as u16;
-    match format {
-        Format::Plain => 0,
-        Format::Rm => second * 16 + first,
-        Format::Mn => first * 16 + second,
-        Format::Nibble => first,
-        Format::Split => first / 16 * 256 + first % 16,
-        Format::Target => operands.addr,
-    }
-}
-
-// The word of a row with its operands, cut to 16 bits: operands that are too large for their fields do not come back from it.
-pub(crate) fn join(pattern: Pattern, operands: Fields) -> u16
-    ensures { result ≡ join_of pattern operands }
-{
-    let format = pattern.1;
-    std::num::wrapping_add_u16(pattern.0, placed(format, operands))
 }
