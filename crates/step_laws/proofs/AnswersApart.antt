@@ -7,13 +7,13 @@ use mathlib.Mathlib.Logic.Function.Defs.{LeftInverse, LeftInverse-Injective}
 use Prim.Native.Nat.{ℕ}
 use lib.Dec.{eqb}
 use lib.ListN.{get_or}
+use Rattle.std.specs.Prelude.{Result, Ok, Err}
 use Rattle.machine.specs.Refusals.{number_of}
 use Rattle.machine.specs.declared.Refusal.{Refusal}
 use Rattle.machine.specs.declared.Refusal.TheVariants.{OutOfRange, PastRom, NoInstruction, Unsupported, NoRegister, BadTarget, StackFull, StackEmpty, PastTable, MissingCell}
 use Rattle.cpu.specs.Answers.{reply_of, reply_number, end_of}
-use Rattle.cpu.specs.declared.Answer.{Answer}
-use Rattle.cpu.specs.declared.Answer.TheVariants.{Done, Standby, Refused}
-use Rattle.cpu.specs.declared.End.TheVariants as end
+use Rattle.cpu.specs.declared.Completion.{Completion}
+use Rattle.cpu.specs.declared.Completion.TheVariants.{Done, Standby}
 use Rattle.step_laws.specs.AnswersApart.{AnswersApart}
 
 -- a refusal for 30 and for 31, what stands for 0, then a refusal for each number, then what stands for every other
@@ -35,20 +35,20 @@ refusal_found zero other refuse StackEmpty = refl
 refusal_found zero other refuse PastTable = refl
 refusal_found zero other refuse MissingCell = refl
 
-abbrev number : Answer → ℕ
+abbrev number : Result Completion Refusal → ℕ
 number a = reply_number (reply_of a)
 
-reply_found : LeftInverse (found Done Refused Standby) number
-reply_found Done = refl
-reply_found Standby = refl
-reply_found (Refused r) = refusal_found Done Standby Refused r
+reply_found : LeftInverse (found (Ok Done) Err (Ok Standby)) number
+reply_found (Ok Done) = refl
+reply_found (Ok Standby) = refl
+reply_found (Err r) = refusal_found (Ok Done) (Ok Standby) Err r
 
-end_found : LeftInverse (found end.Completed end.Refused end.Completed) end_of
-end_found end.Completed = refl
-end_found (end.Refused r) = refusal_found end.Completed end.Completed end.Refused r
+end_found : LeftInverse (found (Ok tt) Err (Ok tt)) end_of
+end_found (Ok u) = refl
+end_found (Err r) = refusal_found (Ok tt) (Ok tt) Err r
 
 pub answers_apart : AnswersApart
 answers_apart = record {
-  replies = LeftInverse-Injective (found Done Refused Standby) number reply_found;
-  ends = LeftInverse-Injective (found end.Completed end.Refused end.Completed) end_of end_found;
+  replies = LeftInverse-Injective (found (Ok Done) Err (Ok Standby)) number reply_found;
+  ends = LeftInverse-Injective (found (Ok tt) Err (Ok tt)) end_of end_found;
 }
