@@ -1,5 +1,4 @@
 pub mod Staying
-pub mod Ports
 pub mod Writes
 pub mod Images
 pub mod Passing

@@ -6,6 +6,7 @@ use crate::Memory;
 use crate::cells::is_set;
 
 // IX, seven bits.
+#[tactic(auto, unfolding(crate::specs::Address::ix_of))]
 pub fn ix(cells: &[u8; 128]) -> u8
     ensures { result ≡ ix_of cells.now }
 {
@@ -13,6 +14,7 @@ pub fn ix(cells: &[u8; 128]) -> u8
 }
 
 // The address of m: ORed with IX where IXE is set.
+#[tactic(auto, unfolding(crate::specs::Address::address_of))]
 pub fn address(cells: &[u8; 128], m: u8) -> u8
     ensures { result ≡ address_of cells.now m }
 {
@@ -24,6 +26,7 @@ pub fn address(cells: &[u8; 128], m: u8) -> u8
 }
 
 // The address of the general register r, which is never ORed.
+#[tactic(auto, unfolding(crate::specs::Address::register_of))]
 pub fn register(cells: &[u8; 128], r: u8) -> u8
     ensures { result ≡ register_of cells.now r }
 {
@@ -31,6 +34,7 @@ pub fn register(cells: &[u8; 128], r: u8) -> u8
 }
 
 // The address of @r, given the content of r.
+#[tactic(auto, unfolding(crate::specs::Address::indirect_of))]
 pub fn indirect(cells: &[u8; 128], m: u8, content: u8) -> u8
     ensures { result ≡ indirect_of cells.now m content }
 {

@@ -12,6 +12,7 @@ fn packed(a: u8, b: u8, c: u8, d: u8, e: u8) -> u32
 }
 
 // The port image: what is stored in P0A, P0B, P0C, P0D and P0E, from the lowest bits up.
+#[tactic(auto, unfolding(crate::specs::Image::image_of))]
 pub fn image(cells: &[u8; 128]) -> u32
     ensures { result ≡ image_of cells.now }
 {

@@ -23,7 +23,7 @@ pub use registers::{
 };
 
 // A chip that a board may have.
-#[derive(Clone, Copy)]
+#[derive(Clone, Copy, PartialEq, Eq)]
 pub enum Model {
     Upd17132,
     Upd17120,

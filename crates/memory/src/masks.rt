@@ -9,39 +9,26 @@ use crate::{Memory, Model};
 fn subseries(at: u8) -> u8
     ensures { result ≡ slice_index subseries_masks at }
 {
-    if 128 <= at {
-        return 0;
+    match at {
+        Memory::AR3 => 0b0000,
+        Memory::BANK => 0b0000,
+        Memory::RPH => 0b0000,
+        Memory::AR2 => 0b0011,
+        Memory::IXH => 0b1000,
+        Memory::IXM => 0b0111,
+        Memory::P0E => 0b0011,
+        128.. => 0,
+        _ => 0b1111,
     }
-    if at == Memory::AR3 {
-        return 0b0000;
-    }
-    if at == Memory::BANK {
-        return 0b0000;
-    }
-    if at == Memory::RPH {
-        return 0b0000;
-    }
-    if at == Memory::AR2 {
-        return 0b0011;
-    }
-    if at == Memory::IXH {
-        return 0b1000;
-    }
-    if at == Memory::IXM {
-        return 0b0111;
-    }
-    if at == Memory::P0E {
-        return 0b0011;
-    }
-    0b1111
 }
 
 // The bits that stay at an address; none of a cell that is not installed.
 pub fn mask(model: Model, at: u8) -> u8
     ensures { result ≡ mask_at (chip_of model) at }
 {
-    if !model.is_installed(at) {
-        return 0;
+    if model.is_installed(at) {
+        subseries(at)
+    } else {
+        0
     }
-    subseries(at)
 }

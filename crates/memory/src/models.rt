@@ -40,16 +40,8 @@ impl Model {
         ensures { result ≡ (chip_of self).installed at }
     {
         match self {
-            Model::Upd17132 => return true,
-            Model::Upd17120 => {
-                if at < 0x40 {
-                    return true;
-                }
-                if 0x6E < at {
-                    return true;
-                }
-                return false;
-            }
+            Model::Upd17132 => true,
+            Model::Upd17120 => !matches!(at, 0x40..=0x6E),
         }
     }
 
@@ -57,19 +49,14 @@ impl Model {
     pub fn is_missing(self, at: u8) -> bool
         ensures { result ≡ is_missing (chip_of self) at }
     {
-        if 128 <= at {
-            return false;
-        }
-        !self.is_installed(at)
+        at < 128 && !self.is_installed(at)
     }
 
     // Whether every cell is installed.
+    #[tactic(auto, unfolding(crate::specs::Chip::is_whole))]
     pub fn is_whole(self) -> bool
         ensures { result ≡ is_whole (chip_of self) }
     {
-        match self {
-            Model::Upd17132 => true,
-            Model::Upd17120 => false,
-        }
+        matches!(self, Model::Upd17132)
     }
 }

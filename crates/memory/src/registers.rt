@@ -1,5 +1,5 @@
 // The registers of several cells, AR and the data buffer of four nibbles and IX of three; and the window register.
-ghost use Rattle.std.specs.Prelude.{◌≡◌, ◌%◌};
+ghost use Rattle.std.specs.Prelude.{◌≡◌, ◌%◌, ◌<◌, slice_index};
 ghost use Rattle.laws.specs.Wrap.{wrap_next};
 ghost use Rattle.memory.specs.Chip.{chip_of};
 ghost use Rattle.memory.specs.Cells.{number};
@@ -10,35 +10,57 @@ use crate::addressing::ix;
 use crate::cells::write;
 use crate::{Memory, Model};
 
-// One more, and 0 after 1,023: AR, a counter of ten bits.
-fn next_ar(x: u16) -> u16
-    ensures { result ≡ wrap_next 10 x }
+// One more, and 0 after the last of so many bits.
+fn next<const BITS: u32>(x: u16) -> u16
+    requires { BITS < 16 }
+    ensures { result ≡ wrap_next BITS x }
 {
-    std::num::wrapping_add_u16(x, 1) % 1024
+    x.wrapping_add(1) % (1 << BITS)
 }
 
-// One more, and 0 after 127: IX, a counter of seven bits.
-fn next_ix(x: u8) -> u8
-    ensures { result ≡ wrap_next 7 x }
-{
-    std::num::wrapping_add_u8(x, 1) % 128
+// The addresses of the four cells of a number of 16 bits, by nibble.
+#[derive(Clone, Copy)]
+struct Word {
+    nibble3: u8,
+    nibble2: u8,
+    nibble1: u8,
+    nibble0: u8,
 }
 
-// The number whose nibbles stand in four cells, the highest first.
-fn joined(a: u8, b: u8, c: u8, d: u8) -> u16
-    ensures { result ≡ number (a % 16) (b % 16) (c % 16) (d % 16) }
-{
-    (a % 16) as u16 * 4096 + (b % 16) as u16 * 256 + (c % 16) as u16 * 16 + (d % 16) as u16
-}
+impl Word {
+    const AR: Word = Word {
+        nibble3: Memory::AR3,
+        nibble2: Memory::AR2,
+        nibble1: Memory::AR1,
+        nibble0: Memory::AR0,
+    };
 
-// A number of 16 bits written to four cells, the highest nibble first.
-fn spread(model: Model, cells: [u8; 128], a: u8, b: u8, c: u8, d: u8, v: u16) -> [u8; 128]
-    ensures { result ≡ writes_applied (chip_of model) cells (number_writes a b c d v) }
-{
-    let first = write(model, cells, a, (v / 4096) as u8);
-    let second = write(model, first, b, (v / 256 % 16) as u8);
-    let third = write(model, second, c, (v / 16 % 16) as u8);
-    write(model, third, d, (v % 16) as u8)
+    const BUFFER: Word = Word {
+        nibble3: Memory::DBF3,
+        nibble2: Memory::DBF2,
+        nibble1: Memory::DBF1,
+        nibble0: Memory::DBF0,
+    };
+
+    fn read(self, cells: &[u8; 128]) -> u16
+        requires { (self.nibble3 < 128) × (self.nibble2 < 128) × (self.nibble1 < 128) × (self.nibble0 < 128) }
+        ensures { result ≡ number (slice_index cells.now self.nibble3 % 16) (slice_index cells.now self.nibble2 % 16) (slice_index cells.now self.nibble1 % 16) (slice_index cells.now self.nibble0 % 16) }
+    {
+        (cells[self.nibble3 as usize] % 16) as u16 * 4096
+            + (cells[self.nibble2 as usize] % 16) as u16 * 256
+            + (cells[self.nibble1 as usize] % 16) as u16 * 16
+            + (cells[self.nibble0 as usize] % 16) as u16
+    }
+
+    #[tactic(auto, unfolding(crate::specs::Write::writes_applied))]
+    fn write(self, model: Model, cells: [u8; 128], v: u16) -> [u8; 128]
+        ensures { result ≡ writes_applied (chip_of model) cells (number_writes self.nibble3 self.nibble2 self.nibble1 self.nibble0 v) }
+    {
+        let first = write(model, cells, self.nibble3, (v / 4096) as u8);
+        let second = write(model, first, self.nibble2, (v / 256 % 16) as u8);
+        let third = write(model, second, self.nibble1, (v / 16 % 16) as u8);
+        write(model, third, self.nibble0, (v % 16) as u8)
+    }
 }
 
 // WR.
@@ -49,36 +71,24 @@ pub fn window(cells: &[u8; 128]) -> u8
 }
 
 // AR.
+#[tactic(auto, unfolding(crate::specs::Registers::ar_of))]
 pub fn ar(cells: &[u8; 128]) -> u16
     ensures { result ≡ ar_of cells.now }
 {
-    joined(
-        cells[Memory::AR3 as usize],
-        cells[Memory::AR2 as usize],
-        cells[Memory::AR1 as usize],
-        cells[Memory::AR0 as usize],
-    )
+    Word::AR.read(cells)
 }
 
 pub fn write_ar(model: Model, cells: [u8; 128], v: u16) -> [u8; 128]
     ensures { result ≡ writes_applied (chip_of model) cells (ar_writes v) }
 {
-    spread(
-        model,
-        cells,
-        Memory::AR3,
-        Memory::AR2,
-        Memory::AR1,
-        Memory::AR0,
-        v,
-    )
+    Word::AR.write(model, cells, v)
 }
 
 // INC AR: after 3FFH comes 000H.
 pub fn increment_ar(model: Model, cells: [u8; 128]) -> [u8; 128]
     ensures { result ≡ writes_applied (chip_of model) cells (increment_ar cells) }
 {
-    let v = next_ar(ar(&cells));
+    let v = next::<10>(ar(&cells));
     write_ar(model, cells, v)
 }
 
@@ -86,26 +96,13 @@ pub fn increment_ar(model: Model, cells: [u8; 128]) -> [u8; 128]
 pub fn buffer(cells: &[u8; 128]) -> u16
     ensures { result ≡ buffer_of cells.now }
 {
-    joined(
-        cells[Memory::DBF3 as usize],
-        cells[Memory::DBF2 as usize],
-        cells[Memory::DBF1 as usize],
-        cells[Memory::DBF0 as usize],
-    )
+    Word::BUFFER.read(cells)
 }
 
 pub fn write_buffer(model: Model, cells: [u8; 128], v: u16) -> [u8; 128]
     ensures { result ≡ writes_applied (chip_of model) cells (buffer_writes v) }
 {
-    spread(
-        model,
-        cells,
-        Memory::DBF3,
-        Memory::DBF2,
-        Memory::DBF1,
-        Memory::DBF0,
-        v,
-    )
+    Word::BUFFER.write(model, cells, v)
 }
 
 // The lower eight bits of the data buffer.
@@ -116,6 +113,7 @@ pub fn low_byte(cells: &[u8; 128]) -> u8
 }
 
 // The lower eight bits of the data buffer written, and its upper eight kept.
+#[tactic(auto, unfolding(crate::specs::Write::writes_applied))]
 pub fn write_low_byte(model: Model, cells: [u8; 128], v: u8) -> [u8; 128]
     ensures { result ≡ writes_applied (chip_of model) cells (low_byte_writes v) }
 {
@@ -124,10 +122,11 @@ pub fn write_low_byte(model: Model, cells: [u8; 128], v: u8) -> [u8; 128]
 }
 
 // INC IX: after 7FH comes 00H, and MPE stays.
+#[tactic(auto, unfolding(crate::specs::Write::writes_applied))]
 pub fn increment_ix(model: Model, cells: [u8; 128]) -> [u8; 128]
     ensures { result ≡ writes_applied (chip_of model) cells (increment_ix cells) }
 {
-    let x = next_ix(ix(&cells));
+    let x = next::<7>(ix(&cells) as u16) as u8;
     let high = cells[Memory::IXH as usize];
     let first = write(model, cells, Memory::IXH, high);
     let second = write(model, first, Memory::IXM, x / 16);

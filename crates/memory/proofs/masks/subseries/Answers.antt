@@ -1,43 +1,43 @@
-use Rattle.std.proofs.Common.{sym}
+use Rattle.std.proofs.Common.{sym, arith}
 use lib.ListN.{get_or-eq_default}
 use Rattle.memory.specs.Chip.{subseries_masks}
 use Rattle.memory.proofs.Staying.{whole}
 use Rattle.memory.proofs.masks.subseries.Goals as goal
 
-pub returns-then-at-ge128 : goal.returns-then-at-ge128
+pub returns-in-116 : goal.returns-in-116
 unfolding subseries_masks
-returns-then-at-ge128 c = sym (get_or-eq_default subseries_masks 0 c.if-at-ge128.true)
+returns-in-116 c = rw c.in-116.is
 
-pub returns-then-at-eq-AR3 : goal.returns-then-at-eq-AR3
+pub returns-in-121 : goal.returns-in-121
 unfolding subseries_masks
-returns-then-at-eq-AR3 c = rw c.if-at-eq-AR3.true
+returns-in-121 c = rw c.in-121.is
 
-pub returns-then-at-eq-BANK : goal.returns-then-at-eq-BANK
+pub returns-in-125 : goal.returns-in-125
 unfolding subseries_masks
-returns-then-at-eq-BANK c = rw c.if-at-eq-BANK.true
+returns-in-125 c = rw c.in-125.is
 
-pub returns-then-at-eq-RPH : goal.returns-then-at-eq-RPH
+pub returns-in-117 : goal.returns-in-117
 unfolding subseries_masks
-returns-then-at-eq-RPH c = rw c.if-at-eq-RPH.true
+returns-in-117 c = rw c.in-117.is
 
-pub returns-then-at-eq-AR2 : goal.returns-then-at-eq-AR2
+pub returns-in-122 : goal.returns-in-122
 unfolding subseries_masks
-returns-then-at-eq-AR2 c = rw c.if-at-eq-AR2.true
+returns-in-122 c = rw c.in-122.is
 
-pub returns-then-at-eq-IXH : goal.returns-then-at-eq-IXH
+pub returns-in-123 : goal.returns-in-123
 unfolding subseries_masks
-returns-then-at-eq-IXH c = rw c.if-at-eq-IXH.true
+returns-in-123 c = rw c.in-123.is
 
-pub returns-then-at-eq-IXM : goal.returns-then-at-eq-IXM
+pub returns-in-111 : goal.returns-in-111
 unfolding subseries_masks
-returns-then-at-eq-IXM c = rw c.if-at-eq-IXM.true
+returns-in-111 c = rw c.in-111.is
 
-pub returns-then-at-eq-P0E : goal.returns-then-at-eq-P0E
+pub returns-in-128-to-255 : goal.returns-in-128-to-255
 unfolding subseries_masks
-returns-then-at-eq-P0E c = rw c.if-at-eq-P0E.true
+returns-in-128-to-255 c = sym (get_or-eq_default subseries_masks 0 {n = c.args.at} (omega arith))
 
-pub returns : goal.returns
-returns c =
-    let s = c in
-    sym (whole _ s.if-at-ge128.false s.if-at-eq-AR3.false s.if-at-eq-BANK.false s.if-at-eq-RPH.false
-    c.if-at-eq-AR2.false c.if-at-eq-IXH.false c.if-at-eq-IXM.false c.if-at-eq-P0E.false)
+pub returns-in_default : goal.returns-in_default
+returns-in_default c =
+    sym (
+    whole c.args.at (omega arith) (λ e. omega (arith, e)) (λ e. omega (arith, e)) (λ e. omega (arith, e)) (λ e. omega (arith, e)) (λ e. omega (arith, e))
+    (λ e. omega (arith, e)) (λ e. omega (arith, e)))
