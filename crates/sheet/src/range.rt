@@ -4,6 +4,7 @@ ghost use Rattle.sheet.specs.Entry.{unreached, entry_at, single as singleOf, rea
 
 use crate::{Entry, UNREACHED};
 
+// The byte at a place, which the word's number gives; 15 past the sheet's end.
 fn byte_at(sheet: &[u8], at: usize) -> u8
     ensures { result ≡ slice_index_or sheet.now at unreached }
 {
