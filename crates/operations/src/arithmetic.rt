@@ -1,12 +1,11 @@
 // The seven operations that have a form r,m and a form m,#n4.
 ghost use Rattle.std.specs.Prelude.{◌≡◌};
-ghost use Rattle.alu.specs.Results.{add_of, subtract_of};
 ghost use Rattle.memory.specs.Cells.{is_set};
 ghost use Rattle.memory.specs.Chip.{chip_of};
-ghost use Rattle.memory.specs.Names.{RPL, BCD};
+ghost use Rattle.memory.specs.Names.{BCD, CY, RPL};
 ghost use Rattle.memory.specs.Write.{writes_applied};
 ghost use Rattle.operations.specs.Data.{data_with};
-ghost use Rattle.operations.specs.Writes.{flags_after, arithmetic_writes, alu_writes};
+ghost use Rattle.operations.specs.Writes.{flag, flags_after, arithmetic_writes, alu_writes};
 
 use crate::Ports;
 use crate::file::read;
@@ -15,6 +14,7 @@ use isa::AluOp;
 use memory::{Memory, Model};
 
 // PSW after an arithmetic result.
+#[tactic(auto, unfolding(crate::specs::Writes::flags_after))]
 fn flags_after(cells: &[u8; 128], o: Outcome) -> u8
     ensures { result ≡ flags_after cells.now o }
 {
@@ -26,11 +26,12 @@ fn flags_after(cells: &[u8; 128], o: Outcome) -> u8
 }
 
 // An arithmetic result.
+#[tactic(auto, unfolding(crate::specs::Writes::arithmetic_writes, memory::specs::Write::writes_applied))]
 fn store_arithmetic(model: Model, cells: &mut [u8; 128], at: u8, o: Outcome)
     ensures { cells.new ≡ writes_applied (chip_of model) cells.old (arithmetic_writes cells.old at o) }
 {
-    let psw = flags_after(&*cells, o);
-    if memory::is_set(&*cells, Memory::PSW, Memory::CMP) {
+    let psw = flags_after(cells, o);
+    if memory::is_set(cells, Memory::PSW, Memory::CMP) {
         memory::store(model, cells, Memory::PSW, psw);
         return;
     }
@@ -42,50 +43,39 @@ fn store_arithmetic(model: Model, cells: &mut [u8; 128], at: u8, o: Outcome)
     memory::store(model, cells, Memory::PSW, psw);
 }
 
-// ADD and ADDC.
-fn add(model: Model, cells: &mut [u8; 128], at: u8, a: u8, b: u8, carry: bool)
-    ensures { cells.new ≡ writes_applied (chip_of model) cells.old (arithmetic_writes cells.old at (add_of (is_set cells.old RPL BCD) a b carry)) }
+// CY.
+pub(crate) fn carry(cells: &[u8; 128]) -> bool
+    ensures { result ≡ flag cells.now CY }
 {
-    let bcd = memory::is_set(&*cells, Memory::RPL, Memory::BCD);
-    store_arithmetic(model, cells, at, alu::add(bcd, a, b, carry));
+    memory::is_set(cells, Memory::PSW, Memory::CY)
 }
 
-// SUB and SUBC.
-fn subtract(model: Model, cells: &mut [u8; 128], at: u8, a: u8, b: u8, carry: bool)
-    ensures { cells.new ≡ writes_applied (chip_of model) cells.old (arithmetic_writes cells.old at (subtract_of (is_set cells.old RPL BCD) a b carry)) }
+fn bcd(cells: &[u8; 128]) -> bool
+    ensures { result ≡ is_set cells.now RPL BCD }
 {
-    let bcd = memory::is_set(&*cells, Memory::RPL, Memory::BCD);
-    store_arithmetic(model, cells, at, alu::subtract(bcd, a, b, carry));
+    memory::is_set(cells, Memory::RPL, Memory::BCD)
 }
 
 // An operation on what stands at an address and a second operand. Arithmetic sets flags, logic does not.
+#[tactic(auto, unfolding(crate::specs::Writes::alu_writes, crate::specs::Writes::result_writes, alu::specs::Results::operate_of, memory::specs::Write::writes_applied))]
 pub fn operate(model: Model, cells: &mut [u8; 128], ports: Ports<'_>, op: AluOp, at: u8, b: u8)
     ensures { cells.new ≡ writes_applied (chip_of model) cells.old (alu_writes (chip_of model) (data_with cells.old ports.entry) op at b) }
 {
-    let a = read(model, &*cells, ports, at);
+    let a = read(model, cells, ports, at);
     match op {
-        AluOp::Add => {
-            add(model, cells, at, a, b, false);
-        }
-        AluOp::AddC => {
-            let carry = memory::is_set(&*cells, Memory::PSW, Memory::CY);
-            add(model, cells, at, a, b, carry);
-        }
-        AluOp::Sub => {
-            subtract(model, cells, at, a, b, false);
-        }
+        AluOp::Add => store_arithmetic(model, cells, at, alu::add(bcd(cells), a, b, false)),
+        AluOp::AddC => store_arithmetic(model, cells, at, alu::add(bcd(cells), a, b, carry(cells))),
+        AluOp::Sub => store_arithmetic(model, cells, at, alu::subtract(bcd(cells), a, b, false)),
         AluOp::SubC => {
-            let carry = memory::is_set(&*cells, Memory::PSW, Memory::CY);
-            subtract(model, cells, at, a, b, carry);
+            store_arithmetic(
+                model,
+                cells,
+                at,
+                alu::subtract(bcd(cells), a, b, carry(cells)),
+            )
         }
-        AluOp::Or => {
-            memory::store(model, cells, at, a | b);
-        }
-        AluOp::And => {
-            memory::store(model, cells, at, a & b);
-        }
-        AluOp::Xor => {
-            memory::store(model, cells, at, a ^ b);
-        }
+        AluOp::Or => memory::store(model, cells, at, a | b),
+        AluOp::And => memory::store(model, cells, at, a & b),
+        AluOp::Xor => memory::store(model, cells, at, a ^ b),
     }
 }

@@ -23,6 +23,7 @@ pub fn read(model: Model, cells: &[u8; 128], ports: Ports<'_>, at: u8) -> u8
 }
 
 // What stands in the register file.
+#[tactic(auto, unfolding(crate::specs::Writes::file_at))]
 fn held(model: Model, cells: &[u8; 128], ports: Ports<'_>, rf: u8) -> u8
     ensures { result ≡ file_at (chip_of model) (data_with cells.now ports.entry) rf }
 {
@@ -36,22 +37,24 @@ fn held(model: Model, cells: &[u8; 128], ports: Ports<'_>, rf: u8) -> u8
 pub fn peek(model: Model, cells: &mut [u8; 128], ports: Ports<'_>, rf: u8)
     ensures { cells.new ≡ write_of (chip_of model) cells.old WR (file_at (chip_of model) (data_with cells.old ports.entry) rf) }
 {
-    let v = held(model, &*cells, ports, rf);
+    let v = held(model, cells, ports, rf);
     memory::store(model, cells, Memory::WR, v);
 }
 
 // POKE of a data cell; of a control register it writes no cell.
+#[tactic(auto, unfolding(crate::specs::Writes::poke_writes, memory::specs::Write::writes_applied))]
 pub fn poke(model: Model, cells: &mut [u8; 128], rf: u8)
     ensures { cells.new ≡ writes_applied (chip_of model) cells.old (poke_writes cells.old rf) }
 {
     if rf < Peripherals::DATA {
         return;
     }
-    let wr = memory::window(&*cells);
+    let wr = memory::window(cells);
     memory::store(model, cells, rf, wr);
 }
 
 // What an instruction makes of the peripherals, the registers where they stand. A timer that is as quiet as it says stays so.
+#[tactic(auto, unfolding(crate::specs::Settings::settings_of))]
 pub fn set(
     cells: &[u8; 128],
     registers: &mut [u8; 7],
@@ -61,28 +64,10 @@ pub fn set(
     ensures { (with_timer registers.new result ≡ settings_of cells.now (with_timer registers.old timer) instruction) × ((pulse : ℕ) → Quiet (with_timer registers.old timer) pulse timer.quiet → Quiet (with_timer registers.new result) pulse result.quiet) }
 {
     match instruction {
-        Instruction::AluRegister { op: _, r: _, m: _ } => timer,
-        Instruction::AluImmediate { op: _, m: _, n4: _ } => timer,
-        Instruction::Skip { op: _, m: _, n4: _ } => timer,
-        Instruction::Rorc(_) => timer,
-        Instruction::Ld { r: _, m: _ } => timer,
-        Instruction::St { m: _, r: _ } => timer,
-        Instruction::MovToIndirect { r: _, m: _ } => timer,
-        Instruction::MovFromIndirect { m: _, r: _ } => timer,
-        Instruction::MovImmediate { m: _, n4: _ } => timer,
-        Instruction::Peek(_) => timer,
-        Instruction::Poke(rf) => {
-            if Peripherals::DATA <= rf {
-                return timer;
-            }
+        Instruction::Poke(rf) if rf < Peripherals::DATA => {
             peripherals::poke(registers, timer, rf, memory::window(cells))
         }
-        Instruction::Get(_) => timer,
         Instruction::Put(_) => peripherals::with_modulo(timer, memory::low_byte(cells)),
-        Instruction::Br(_) => timer,
-        Instruction::Call(_) => timer,
-        Instruction::Stop(_) => timer,
-        Instruction::Halt(_) => timer,
-        Instruction::Fixed(_) => timer,
+        _ => timer,
     }
 }

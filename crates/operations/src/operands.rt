@@ -11,10 +11,11 @@ use isa::Instruction;
 use memory::Model;
 use peripherals::Peripherals;
 
-// An address that no cell has.
+// An address that no cell has. No Option stands for it: the definition `addresses_of` has this number.
 const NO_CELL: u8 = 128;
 
 // The address of @r.
+#[tactic(auto, unfolding(crate::specs::Operands::address_in))]
 fn pointer(model: Model, cells: &[u8; 128], ports: Ports<'_>, m: u8, r: u8) -> u8
     ensures { result ≡ address_in (chip_of model) (data_with cells.now ports.entry) (indirect m r) }
 {
@@ -27,16 +28,10 @@ fn both(to: u8, from: u8) -> Addresses
     ensures { result ≡ record { to = to; from = from; pointer = no_cell } }
 {
     Addresses {
-        to: to,
-        from: from,
+        to,
+        from,
         pointer: NO_CELL,
     }
-}
-
-fn no_operands() -> Addresses
-    ensures { result ≡ record { to = no_cell; from = no_cell; pointer = no_cell } }
-{
-    both(NO_CELL, NO_CELL)
 }
 
 // The address of rf, where that is a cell.
@@ -49,6 +44,7 @@ fn file(rf: u8) -> u8
     NO_CELL
 }
 
+#[tactic(auto, unfolding(crate::specs::Operands::address_in, crate::specs::Operands::addresses_of))]
 pub fn locate(
     model: Model,
     cells: &[u8; 128],
@@ -58,11 +54,11 @@ pub fn locate(
     ensures { result ≡ addresses_of (chip_of model) (data_with cells.now ports.entry) instruction }
 {
     match instruction {
-        Instruction::AluRegister { op: _, r, m } => {
+        Instruction::AluRegister { r, m, .. } => {
             both(memory::register(cells, r), memory::address(cells, m))
         }
-        Instruction::AluImmediate { op: _, m, n4: _ } => both(memory::address(cells, m), NO_CELL),
-        Instruction::Skip { op: _, m, n4: _ } => both(NO_CELL, memory::address(cells, m)),
+        Instruction::AluImmediate { m, .. } => both(memory::address(cells, m), NO_CELL),
+        Instruction::Skip { m, .. } => both(NO_CELL, memory::address(cells, m)),
         Instruction::Rorc(r) => both(memory::register(cells, r), NO_CELL),
         Instruction::Ld { r, m } => both(memory::register(cells, r), memory::address(cells, m)),
         Instruction::St { m, r } => both(memory::address(cells, m), memory::register(cells, r)),
@@ -80,31 +76,18 @@ pub fn locate(
                 pointer: memory::register(cells, r),
             }
         }
-        Instruction::MovImmediate { m, n4: _ } => both(memory::address(cells, m), NO_CELL),
+        Instruction::MovImmediate { m, .. } => both(memory::address(cells, m), NO_CELL),
         Instruction::Peek(rf) => both(NO_CELL, file(rf)),
         Instruction::Poke(rf) => both(file(rf), NO_CELL),
-        Instruction::Get(_) => no_operands(),
-        Instruction::Put(_) => no_operands(),
-        Instruction::Br(_) => no_operands(),
-        Instruction::Call(_) => no_operands(),
-        Instruction::Stop(_) => no_operands(),
-        Instruction::Halt(_) => no_operands(),
-        Instruction::Fixed(_) => no_operands(),
+        _ => both(NO_CELL, NO_CELL),
     }
 }
 
 // Whether the chip lacks a cell that an operand reads or writes.
+#[tactic(auto, using(memory::proofs::Numbers::none_lacking), unfolding(crate::specs::Operands::lacks_at))]
 pub fn lacks(model: Model, a: Addresses) -> bool
     ensures { result ≡ lacks_at (chip_of model) a }
 {
-    if model.is_whole() {
-        return false;
-    }
-    if model.is_missing(a.to) {
-        return true;
-    }
-    if model.is_missing(a.from) {
-        return true;
-    }
-    model.is_missing(a.pointer)
+    !model.is_whole()
+        && (model.is_missing(a.to) || model.is_missing(a.from) || model.is_missing(a.pointer))
 }

@@ -28,6 +28,7 @@ fn is_result_or_flags(cell: u8, to: u8) -> bool
 }
 
 // The flags always, the result unless CMP is set.
+#[tactic(auto, using(crate::proofs::Touched::one_write, crate::proofs::Touched::with_flags), unfolding(crate::specs::Writes::arithmetic_writes))]
 fn arithmetic_writes(cells: &[u8; 128], to: u8, cell: u8) -> bool
     ensures { (o : Outcome) → result ≡ touches (arithmetic_writes cells.now to o) cell }
 {
@@ -38,60 +39,47 @@ fn arithmetic_writes(cells: &[u8; 128], to: u8, cell: u8) -> bool
 }
 
 // The seven operations: logic writes its result alone.
+#[tactic(auto, using(crate::proofs::Touched::one_write), unfolding(crate::specs::Writes::result_writes))]
 fn result_writes(cells: &[u8; 128], op: AluOp, to: u8, cell: u8) -> bool
     ensures { (o : Outcome) → result ≡ touches (result_writes cells.now op to o) cell }
 {
     match op {
-        AluOp::Add => arithmetic_writes(cells, to, cell),
-        AluOp::AddC => arithmetic_writes(cells, to, cell),
-        AluOp::Sub => arithmetic_writes(cells, to, cell),
-        AluOp::SubC => arithmetic_writes(cells, to, cell),
-        AluOp::Or => cell == to,
-        AluOp::And => cell == to,
-        AluOp::Xor => cell == to,
+        AluOp::Or | AluOp::And | AluOp::Xor => cell == to,
+        _ => arithmetic_writes(cells, to, cell),
     }
 }
 
 // SKT and SKF clear CMP, set or not.
+#[tactic(auto, using(crate::proofs::Touched::one_write), unfolding(crate::specs::Writes::skip_writes))]
 fn skip_writes(op: SkipOp, cell: u8) -> bool
     ensures { (cells : List ℕ) → result ≡ touches (skip_writes cells op) cell }
 {
     match op {
-        SkipOp::Skt => cell == Memory::PSW,
-        SkipOp::Skf => cell == Memory::PSW,
-        SkipOp::Ske => false,
-        SkipOp::Skne => false,
-        SkipOp::Skge => false,
-        SkipOp::Sklt => false,
+        SkipOp::Skt | SkipOp::Skf => cell == Memory::PSW,
+        _ => false,
     }
 }
 
+#[tactic(auto, using(crate::proofs::Touched::one_write), unfolding(crate::specs::Writes::poke_writes))]
 fn poke_writes(rf: u8, cell: u8) -> bool
     ensures { (cells : List ℕ) → result ≡ touches (poke_writes cells rf) cell }
 {
     Peripherals::DATA <= rf && cell == rf
 }
 
+#[tactic(auto, using(crate::proofs::Touched::ar_touched, crate::proofs::Touched::ix_touched, crate::proofs::Touched::buffer_touched), unfolding(crate::specs::Writes::writes_at))]
 fn fixed_writes(op: FixedOp, cell: u8) -> bool
     ensures { (chip : Chip) (d : Data) (a : Addresses) (src : Sources) → result ≡ touches (writes_at chip d a (Instruction.Fixed op) src) cell }
 {
     match op {
-        FixedOp::IncAr => is_within(cell, Memory::AR3, Memory::AR0),
+        FixedOp::IncAr | FixedOp::PopAr => is_within(cell, Memory::AR3, Memory::AR0),
         FixedOp::IncIx => is_within(cell, Memory::IXH, Memory::IXL),
         FixedOp::Movt => is_within(cell, Memory::DBF3, Memory::DBF0),
-        FixedOp::PushAr => false,
-        FixedOp::PopAr => is_within(cell, Memory::AR3, Memory::AR0),
-        FixedOp::BrAr => false,
-        FixedOp::CallAr => false,
-        FixedOp::Ret => false,
-        FixedOp::Retsk => false,
-        FixedOp::Reti => false,
-        FixedOp::Ei => false,
-        FixedOp::Di => false,
-        FixedOp::Nop => false,
+        _ => false,
     }
 }
 
+#[tactic(auto, using(crate::proofs::Touched::one_write, crate::proofs::Touched::with_flags, crate::proofs::Touched::low_byte_touched), unfolding(crate::specs::Writes::alu_writes, crate::specs::Writes::rotate_writes, crate::specs::Writes::transfer_writes, crate::specs::Writes::writes_at, crate::specs::Writes::writes_of))]
 pub fn writes(
     model: Model,
     cells: &[u8; 128],
@@ -103,23 +91,20 @@ pub fn writes(
 {
     let a = locate(model, cells, ports, instruction);
     match instruction {
-        Instruction::AluRegister { op, r: _, m: _ } => result_writes(cells, op, a.to, cell),
-        Instruction::AluImmediate { op, m: _, n4: _ } => result_writes(cells, op, a.to, cell),
-        Instruction::Skip { op, m: _, n4: _ } => skip_writes(op, cell),
+        Instruction::AluRegister { op, .. } | Instruction::AluImmediate { op, .. } => {
+            result_writes(cells, op, a.to, cell)
+        }
+        Instruction::Skip { op, .. } => skip_writes(op, cell),
         Instruction::Rorc(_) => is_result_or_flags(cell, a.to),
-        Instruction::Ld { r: _, m: _ } => cell == a.to,
-        Instruction::St { m: _, r: _ } => cell == a.to,
-        Instruction::MovToIndirect { r: _, m: _ } => cell == a.to,
-        Instruction::MovFromIndirect { m: _, r: _ } => cell == a.to,
-        Instruction::MovImmediate { m: _, n4: _ } => cell == a.to,
+        Instruction::Ld { .. }
+        | Instruction::St { .. }
+        | Instruction::MovToIndirect { .. }
+        | Instruction::MovFromIndirect { .. }
+        | Instruction::MovImmediate { .. } => cell == a.to,
         Instruction::Peek(_) => cell == Memory::WR,
         Instruction::Poke(rf) => poke_writes(rf, cell),
         Instruction::Get(_) => is_within(cell, Memory::DBF1, Memory::DBF0),
-        Instruction::Put(_) => false,
-        Instruction::Br(_) => false,
-        Instruction::Call(_) => false,
-        Instruction::Stop(_) => false,
-        Instruction::Halt(_) => false,
         Instruction::Fixed(op) => fixed_writes(op, cell),
+        _ => false,
     }
 }
