@@ -1,4 +1,3 @@
-pub mod Addresses
 pub mod Crossing
 pub mod Tests
 pub mod Ticks

@@ -3,6 +3,7 @@ pub mod Registers
 pub mod Parts
 pub mod Directions
 pub mod Timer
+pub mod Clock
 pub mod Range
 pub mod Pace
 pub mod TimerLaws

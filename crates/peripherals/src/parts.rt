@@ -1,4 +1,5 @@
-// The peripherals in two parts, the registers and the timer, and put together.
+// The peripherals in two parts, the registers and the timer, and put together. These are functions and no `From`, which would be no
+// plainer: the registers stay where they stand, and the timer alone is less than the peripherals.
 ghost use Rattle.std.specs.Prelude.{◌≡◌};
 ghost use Rattle.peripherals.specs.Parts.{with_timer};
 

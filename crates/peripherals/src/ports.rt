@@ -9,9 +9,10 @@ fn group(registers: [u8; 7]) -> u8
     ensures { result ≡ group_direction registers }
 {
     if registers[Peripherals::P0BGIO] & Peripherals::GROUP != 0 {
-        return 0b1111;
+        0b1111
+    } else {
+        0b0000
     }
-    0b0000
 }
 
 // P0D: bit 3 is the timer's output where TMOSEL is 1.
@@ -20,22 +21,22 @@ fn with_timer(registers: [u8; 7]) -> u8
 {
     let own = registers[Peripherals::P0DBIO];
     if registers[Peripherals::TMO] & Peripherals::TMOSEL != 0 {
-        return own | 0b1000;
+        own | 0b1000
+    } else {
+        own
     }
-    own
 }
 
 // Of P0A to P0E, as the input record has its pins.
+#[tactic(auto, unfolding(crate::specs::Directions::directions_of))]
 pub fn directions(registers: [u8; 7]) -> [u8; 5]
     ensures { result ≡ directions_of registers }
 {
-    let b = group(registers);
-    let d = with_timer(registers);
     [
         registers[Peripherals::P0ABIO],
-        b,
+        group(registers),
         registers[Peripherals::P0CBIO],
-        d,
+        with_timer(registers),
         registers[Peripherals::P0EBIO],
     ]
 }

@@ -10,9 +10,8 @@ pub fn in_range(p: Peripherals) -> bool
     ensures { result ≡ peripherals_in_range p }
 {
     let registers = p.registers;
-    for at in 0..7usize {
-        let held = registers[at];
-        if held & mask(at) != held {
+    for (at, held) in registers.iter().enumerate() {
+        if *held & mask(at) != *held {
             return false;
         }
     }

@@ -1,9 +1,6 @@
-use Rattle.std.proofs.Common.{◌≡◌, refl, arith, rules}
+use Rattle.std.proofs.Common.{◌≡◌, arith, rules}
 use Rattle.peripherals.proofs.Tests.{one_more, one_fails, out, rest}
 use Rattle.peripherals.proofs.ranges.in_range.Goals as goal
-
-pub loop-at-init : goal.loop-at-init
-loop-at-init c = (omega arith, refl)
 
 pub returns-then-held-mask : goal.returns-then-held-mask
 returns-then-held-mask c =
@@ -13,11 +10,11 @@ returns-then-held-mask c =
 pub loop-at-preserved : goal.loop-at-preserved
 loop-at-preserved c =
     let l = c.loop-at in
-    (omega arith, one_more c.args.p.registers l.at (rw c.mask.ensures at c.if-held-mask.false) l.invariant.1)
+    one_more c.args.p.registers l.at (rw c.mask.ensures at c.if-held-mask.false) l.invariant
 
 pub returns : goal.returns
 returns c =
     let p = c.args.p in
     let l = c.loop-at in
     let e : l.at ≡ 7 = omega arith in
-    rest p (rw e at l.invariant.1) (search rules) (search rules)
+    rest p (rw e at l.invariant) (search rules) (search rules)
