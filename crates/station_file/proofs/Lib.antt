@@ -8,9 +8,8 @@ pub mod WordLists
 pub mod Scanned
 pub mod Local
 pub mod EntryBytes
-pub mod FormNumbers
+pub mod InputBytes
 pub mod Halves
-pub mod Splices
 pub mod Soundness
 pub mod Parts
 pub mod Packing
@@ -18,8 +17,6 @@ pub mod Kept
 pub mod InForms
 pub mod Overlaid
 pub mod Parsing
-pub mod Filled
-pub mod Widened
 pub mod Placing
-pub mod Checks
 pub mod Rendering
+pub mod Widened

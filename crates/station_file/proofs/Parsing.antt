@@ -1,130 +1,97 @@
--- What a file's sections give, from what their fields give.
+-- What a file's sections give, each as a section of elements after its count.
 -- Assumes nothing.
 use mathlib.Core.Path.{◌≡◌, ◌∙◌, refl, sym, ap}
-use mathlib.Core.Bool.{Bool, true, false}
+use mathlib.Core.Bool.{Bool, true, false, cond}
 use mathlib.Core.List.{List}
-use Prim.Native.Nat.{ℕ, ◌+◌, ◌*◌, ◌-◌, ◌<◌, ◌≤◌}
-use native.Mathlib.Omega.{arith}
-use lib.ListN.{length, take, drop, length-drop, drop_of_length-le}
-use lib.Seq.{drop-cons, drop-drop}
-use borrow.Author.Tests.{eq-eqb, ne_eqb}
+use Prim.Native.Nat.{ℕ, ◌*◌, ◌≤◌}
+use borrow.Author.Tests.{leb-true, leb-false}
+use lib.Dec.{leb}
+use lib.ListN.{length, take, drop, take-append-drop}
 use Rattle.station_file.specs.Reading.{Reading, got, refused, and_then, tested, number, fields}
-use Rattle.station_file.specs.Station.{Form, word_field, rom_section, sheet_section, input_section, parse_of}
-use Rattle.station_file.specs.Answers.{file_number}
-use Rattle.station_file.specs.Places.{words as words_of, form_section, after_form, number_in, NumberFits, OpeningFits, scanned, ScanFits, words_in, bytes_in, SectionFits, refusal_in, station_in}
+use Rattle.station_file.specs.Station as station
+use Rattle.station_file.specs.Station.{word_field, rom_count, sheet_count, entry_byte, entry_field, input_byte, input_field, rom_section, sheet_section, input_section}
+use Rattle.station_file.specs.Write.{every_at}
+use Rattle.station_file.specs.Places.{words_of, form_of, read_as, bytes_of_section, section_of}
 use Rattle.station_file.specs.declared.FileRefusal.{FileRefusal}
-use Rattle.station_file.specs.declared.Number.{Number}
-use Rattle.station_file.specs.declared.Number.TheVariants.{Is, Early}
-use Rattle.station_file.specs.declared.Opening.{Opening}
-use Rattle.station_file.specs.declared.Opening.TheVariants as opening
-use Rattle.station_file.specs.declared.Test.{Test}
-use Rattle.station_file.specs.declared.Test.TheVariants as test
-use Rattle.station_file.specs.declared.Section.{Section}
-use Rattle.station_file.specs.declared.Section.TheVariants as section
-use Rattle.station_file.specs.declared.Layout.TheVariants as layout
-use Rattle.station_file.proofs.WordLists.{length_words, enough, too_few}
+use Rattle.station_file.specs.declared.forms.Form.{Form}
+use Rattle.station_file.specs.declared.forms.Form.TheVariants.{One, Two}
+use Rattle.std.specs.Prelude.{Result, Ok, Err}
+use Rattle.std.specs.Borrow.{Bor}
+use Rattle.station_file.proofs.Local.{entries_same}
+use Rattle.station_file.proofs.Scanned.{scanned}
+use Rattle.station_file.proofs.WordLists.{enough, too_few, words_of_take}
 
--- a section: a count that passes its test, and what comes after it
-abbrev pub counting : (ℕ → Bool) → (ℕ → List ℕ → Reading (List ℕ)) → List ℕ → Reading (List ℕ)
-counting ok more xs = and_then (tested ok 22 (number 2 xs)) more
+-- what comes after a count, in two ways that agree
+same_after : {A : Type 0} (count : ℕ → Bool) (f g : ℕ → List ℕ → Reading A) → ((n : ℕ) (rest : List ℕ) → f n rest ≡ g n rest) → (r : Reading ℕ)
+    → and_then (tested count 22 r) f ≡ and_then (tested count 22 r) g
+same_after count f g h (refused n) = refl
+same_after count f g h (got n rest) = by_test (count n)
+  where
+    by_test : (b : Bool) → and_then (cond b (got n rest) (refused 22)) f ≡ and_then (cond b (got n rest) (refused 22)) g
+    by_test true = h n rest
+    by_test false = refl
 
--- from what reading the count told
-module _ (ok : ℕ → Bool) (more : ℕ → List ℕ → Reading (List ℕ)) (file : List ℕ) (at : ℕ) {r : Number} (h : number_in file r ≡ number 2 (drop at file)) where
-  pub early : r ≡ Early → refused 21 ≡ counting ok more (drop at file)
-  early e = rw (sym h ∙ ap (number_in file) e) refl
+-- the words of a ROM's bytes
+abbrev as_words : List ℕ → List ℕ → Reading (List ℕ)
+as_words bytes rest = got (words_of bytes) rest
 
-  pub miscounted : {n next : ℕ} → r ≡ Is n next → ok n ≡ false → refused 22 ≡ counting ok more (drop at file)
-  miscounted e p = rw (sym h ∙ ap (number_in file) e, p) refl
+words_after : (n : ℕ) (rest : List ℕ) → fields word_field 0 n rest ≡ and_then (bytes_of_section (λ (bytes : List ℕ). true) (2 * n) rest) as_words
+words_after n rest = by_size (leb (2 * n) (length rest)) refl
+  where
+    by_size : (b : Bool) → leb (2 * n) (length rest) ≡ b
+        → fields word_field 0 n rest ≡ and_then (cond b (got (take (2 * n) rest) (drop (2 * n) rest)) (refused 21)) as_words
+    by_size true e =
+        let h : 2 * n ≤ length rest = leb-true (2 * n) (length rest) e in
+        enough 0 n rest h ∙ rw (words_of_take n rest h) refl
+    by_size false e = too_few 0 n rest (leb-false (2 * n) (length rest) e)
 
-  module _ {n next : ℕ} (e : r ≡ Is n next) (p : ok n ≡ true) where
-    items : more n (drop next file) ≡ counting ok more (drop at file)
-    items = rw (sym h ∙ ap (number_in file) e, p) refl
+after_then : {A B C : Type 0} (r : Reading A) (f : A → List ℕ → Reading B) (g : B → List ℕ → Reading C)
+    → and_then (and_then r f) g ≡ and_then r (λ (v : A) (rest : List ℕ). and_then (f v rest) g)
+after_then (got v rest) f g = refl
+after_then (refused n) f g = refl
 
-    -- bytes that were scanned
-    module _ (size : ℕ) {k : Test} (s : scanned file next size k ≡ more n (drop next file)) where
-      pub scan_fails : {f : FileRefusal} → k ≡ test.Refused f → refused (file_number f) ≡ counting ok more (drop at file)
-      scan_fails g = sym (ap (scanned file next size) g) ∙ s ∙ items
+pub rom_is : (xs : List ℕ) → rom_section xs ≡ and_then (section_of rom_count (λ (bytes : List ℕ). true) 2 xs) as_words
+unfolding rom_section
+rom_is xs =
+    same_after rom_count (fields word_field 0) (λ (n : ℕ) (rest : List ℕ). and_then (bytes_of_section (λ (bytes : List ℕ). true) (2 * n) rest) as_words) words_after (number 2 xs)
+    ∙ sym (after_then (tested rom_count 22 (number 2 xs)) (λ (n : ℕ) (rest : List ℕ). bytes_of_section (λ (bytes : List ℕ). true) (2 * n) rest) as_words)
 
-      pub scan_passes : k ≡ test.Passed → got (take size (drop next file)) (drop (next + size) file) ≡ counting ok more (drop at file)
-      scan_passes g = sym (ap (scanned file next size) g) ∙ s ∙ items
+abbrev pub entries_test : station.Form → List ℕ → Bool
+entries_test form bytes = every_at (entry_byte form bytes) 0 bytes
 
--- words, which need no scan
-abbrev pub words_after : ℕ → List ℕ → Reading (List ℕ)
-words_after n rest = fields word_field 0 n rest
+entries_after : (form : station.Form) (n : ℕ) (rest : List ℕ) → fields (entry_field form rest) 0 n rest ≡ bytes_of_section (entries_test form) n rest
+entries_after form n rest =
+    let front : every_at (entry_byte form (take n rest)) 0 (take n rest) ≡ every_at (entry_byte form rest) 0 (take n rest) =
+    entries_same form (take n rest) (drop n rest) ∙ ap (λ (xs : List ℕ). every_at (entry_byte form xs) 0 (take n rest)) (take-append-drop n rest)
+    in
+    scanned (entry_byte form rest) 0 n rest ∙ rw (← front) refl
 
-module _ (ok : ℕ → Bool) (file : List ℕ) (at : ℕ) {r : Number} (h : number_in file r ≡ number 2 (drop at file)) {n next : ℕ} (e : r ≡ Is n next)
-    (p : ok n ≡ true) where
-  pub words_short : length file - next < 2 * n → refused 21 ≡ counting ok words_after (drop at file)
-  words_short s = sym (too_few 0 n (drop next file) (omega (arith, length-drop next file))) ∙ items ok words_after file at h e p
+pub sheet_is : (form : station.Form) (words : ℕ) (xs : List ℕ) → sheet_section form words xs ≡ section_of (sheet_count words) (entries_test form) form.entry_bytes xs
+unfolding sheet_section
+sheet_is form words xs =
+    same_after (sheet_count words) (λ (n : ℕ) (rest : List ℕ). fields (entry_field form rest) 0 (form.entry_bytes * n) rest)
+    (λ (n : ℕ) (rest : List ℕ). bytes_of_section (entries_test form) (form.entry_bytes * n) rest)
+    (λ n rest. entries_after form (form.entry_bytes * n) rest) (number 2 xs)
 
-  pub words_whole : 2 * n ≤ length file - next
-      → got (words_of n (drop next file)) (drop (next + 2 * n) file) ≡ counting ok words_after (drop at file)
-  words_whole s =
-      ap (λ (rest : List ℕ). got (words_of n (drop next file)) rest) (sym (drop-drop (2 * n) next file))
-      ∙ sym (enough 0 n (drop next file) (omega (arith, length-drop next file))) ∙ items ok words_after file at h e p
+abbrev pub few : ℕ → Bool
+few n = leb n 4095
 
--- what an answer promises, by its case
-pub fits_of : (file : List ℕ) {r : Number} {n next : ℕ} → r ≡ Is n next → NumberFits file r → (n < 65536) × (next ≤ length file)
-fits_of file e f = rw e at f
+counts : (form : Form) → (form_of form).count_bytes ≡ 2
+counts One = refl
+counts Two = refl
 
-pub scan_fits : (file : List ℕ) (at n : ℕ) {k : Test} → k ≡ test.Passed → ScanFits file at n k → at + n ≤ length file
-scan_fits file at n e f = rw e at f
+most : (form : Form) → (form_of form).most_inputs ≡ 4095
+most One = refl
+most Two = refl
 
-pub section_fits : (width : ℕ) (file : List ℕ) {r : Section} {n start next : ℕ} → r ≡ section.Good n start next → SectionFits width file r
-    → (start + width * n ≡ next) × (next ≤ length file)
-section_fits width file e f = rw e at f
+pub inputs_is : (form : Form) (xs : List ℕ) → input_section (form_of form) xs ≡ section_of few (every_at input_byte 0) 11 xs
+unfolding input_section
+inputs_is form xs = rw (counts form, most form)
+    (same_after few (λ (n : ℕ) (rest : List ℕ). fields input_field 0 (11 * n) rest) (λ (n : ℕ) (rest : List ℕ). bytes_of_section (every_at input_byte 0) (11 * n) rest)
+    (λ n rest. scanned input_byte 0 (11 * n) rest) (number 2 xs))
 
-pub opening_fits : (file : List ℕ) {r : Opening} {next : ℕ} → r ≡ opening.At next → OpeningFits file r → next ≤ length file
-opening_fits file e f = rw e at f
-
--- the form number
-module _ (form : Form) (file : List ℕ) {r : Number} (h : number_in file r ≡ number 2 (drop 0 file)) where
-  pub form_early : r ≡ Early → refused 21 ≡ form_section form file
-  form_early e = rw (sym h ∙ ap (number_in file) e) refl
-
-  pub form_other : {n next : ℕ} → r ≡ Is n next → (n ≡ form.number → ⊥) → refused 20 ≡ form_section form file
-  form_other {n} e p = rw (sym h ∙ ap (number_in file) e, ne_eqb n form.number p) refl
-
-  pub form_same : {n next : ℕ} → r ≡ Is n next → n ≡ form.number → got form.number (drop next file) ≡ form_section form file
-  form_same {n} {next} e p =
-      rw (sym h ∙ ap (number_in file) e, eq-eqb n form.number p) (ap (λ (v : ℕ). got v (drop next file)) (sym p))
-
--- the sections one after the other, from what each told
-sheet_after : (form : Form) (n : ℕ) (xs b : List ℕ) {x : Reading (List ℕ)} → x ≡ sheet_section form n b → sheet_section form (length (words_of n xs)) b ≡ x
-sheet_after form n xs b j = rw (length_words n xs) (sym j)
-
-module _ (form : Form) (file : List ℕ) (at : ℕ) {r : Section} (h : words_in file r ≡ rom_section (drop at file)) where
-  pub rom_fails : {f g : FileRefusal} → r ≡ section.Refused g → f ≡ refusal_in r → refused (file_number f) ≡ after_form form (drop at file)
-  unfolding after_form
-  rom_fails e i = rw (sym h ∙ ap (words_in file) e, i, e) refl
-
-  module _ {n s b : ℕ} (e : r ≡ section.Good n s b) {t : Section} (j : bytes_in form.entry_bytes file t ≡ sheet_section form n (drop b file)) where
-    pub sheet_fails : {f g : FileRefusal} → t ≡ section.Refused g → f ≡ refusal_in t → refused (file_number f) ≡ after_form form (drop at file)
-    unfolding after_form
-    sheet_fails k i = rw (sym h ∙ ap (words_in file) e, sheet_after form n (drop s file) (drop b file) j ∙ ap (bytes_in form.entry_bytes file) k, i, k) refl
-
-    module _ {m p d : ℕ} (k : t ≡ section.Good m p d) {u : Section} (l : bytes_in 11 file u ≡ input_section form (drop d file)) where
-      pub inputs_fail : {f g : FileRefusal} → u ≡ section.Refused g → f ≡ refusal_in u → refused (file_number f) ≡ after_form form (drop at file)
-      unfolding after_form
-      inputs_fail q i =
-          rw (sym h ∙ ap (words_in file) e, sheet_after form n (drop s file) (drop b file) j ∙ ap (bytes_in form.entry_bytes file) k, sym l ∙ ap (bytes_in 11 file) q, i, q) refl
-
-      module _ {o v w : ℕ} (q : u ≡ section.Good o v w) where
-        pub goes_on : w < length file → refused 24 ≡ after_form form (drop at file)
-        unfolding after_form
-        goes_on x =
-            rw (sym h ∙ ap (words_in file) e, sheet_after form n (drop s file) (drop b file) j ∙ ap (bytes_in form.entry_bytes file) k, sym l ∙ ap (bytes_in 11 file) q, drop-cons file w 0 x) refl
-
-        pub ends : length file ≤ w → station_in file form.entry_bytes (layout.Station n s m p o v) ≡ after_form form (drop at file)
-        unfolding after_form
-        ends x =
-            rw (sym h ∙ ap (words_in file) e, sheet_after form n (drop s file) (drop b file) j ∙ ap (bytes_in form.entry_bytes file) k, sym l ∙ ap (bytes_in 11 file) q, drop_of_length-le file x) refl
-
--- the form number, then the sections
-pub form_fails : (form : Form) (file : List ℕ) (n : ℕ) → form_section form file ≡ refused n → refused n ≡ parse_of form file
-unfolding parse_of
-form_fails form file n e = rw e refl
-
-pub form_passes : (form : Form) (file : List ℕ) (v : ℕ) (a : List ℕ) → form_section form file ≡ got v a → after_form form a ≡ parse_of form file
-unfolding parse_of after_form
-form_passes form file v a e = rw e refl
+-- a ROM section's answer, from that of its bytes
+pub words_read : (r : Result (Bor (List ℕ) × Bor (List ℕ)) FileRefusal) (xs : List ℕ)
+    → read_as (λ b. b.now) r ≡ section_of rom_count (λ (bytes : List ℕ). true) 2 xs → read_as (λ b. words_of b.now) r ≡ rom_section xs
+words_read (Ok p) xs h = sym (rom_is xs ∙ rw (← h) refl)
+words_read (Err f) xs h = sym (rom_is xs ∙ rw (← h) refl)

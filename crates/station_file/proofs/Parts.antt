@@ -17,7 +17,7 @@ use Rattle.station_file.proofs.Digits.{number_took, length_number}
 use Rattle.station_file.proofs.Local.{entry_bytes_of, entries_same, sheet_section_lem, sheet_split}
 use Rattle.station_file.proofs.Readings.{not_got, got_then, got_tested}
 use Rattle.station_file.proofs.Soundness.{length_of, count_of}
-use Rattle.station_file.proofs.Splices.{length_word_bytes}
+use Rattle.station_file.proofs.WordLists.{length_word_bytes}
 use Rattle.station_file.proofs.Taking.{Bytes, Took, took_then, bytes_below}
 
 -- the three sections: a field for each that is counted, or eleven bytes

@@ -1,18 +1,16 @@
 -- A sheet of single levels, made into one of ranges.
 -- Assumes nothing.
 use mathlib.Core.Path.{◌≡◌, refl}
-use mathlib.Core.List.{List}
+use mathlib.Core.List.{List, ◌++◌}
 use Prim.Native.Nat.{ℕ, ◌*◌, ◌/◌, ◌<◌, ◌≤◌}
 use native.Mathlib.Omega.{arith}
-use lib.ListN.{length, take}
-use lib.Seq.{take-length}
+use lib.ListN.{length, drop}
 use borrow.Author.Tests.{le-leb, lt-leb}
+use Rattle.std.specs.Prelude.{Ok, Err}
 use Rattle.station_file.specs.Answers.{written_by}
 use Rattle.station_file.specs.Forms.{doubled}
-use Rattle.station_file.specs.Read.{overlay}
 use Rattle.station_file.specs.Write.{widen_of}
 use Rattle.station_file.specs.declared.FileRefusal.TheVariants.{Room}
-use Rattle.std.specs.Prelude.{Ok, Err}
 use Rattle.station_file.proofs.Halves.{length_doubled}
 
 module _ (levels out : List ℕ) where
@@ -22,9 +20,9 @@ module _ (levels out : List ℕ) where
       let b : length out < 2 * length levels = omega arith in
       rw (length_doubled levels, lt-leb (2 * length levels) (length out) b) refl
 
-  pub widens : (last : List ℕ) → length levels ≤ length out / 2 → last ≡ overlay (doubled (take (length levels) levels)) out
-      → written_by (Ok (2 * length levels)) last ≡ widen_of levels out
+  pub widens : (front : List ℕ) → length levels ≤ length out / 2 → front ≡ doubled levels
+      → written_by (Ok (2 * length levels)) (front ++ drop (2 * length levels) out) ≡ widen_of levels out
   unfolding widen_of
-  widens last h e =
+  widens front h e =
       let b : 2 * length levels ≤ length out = omega arith in
-      rw (e, take-length levels, length_doubled levels, le-leb (2 * length levels) (length out) b) refl
+      rw (e, length_doubled levels, le-leb (2 * length levels) (length out) b) refl

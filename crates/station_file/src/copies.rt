@@ -1,78 +1,50 @@
-// What is written to a lent buffer.
-ghost use Rattle.std.specs.Prelude.{◌≡◌, ◌+◌, ◌*◌, ◌/◌, ◌≤◌, length, take, drop};
-ghost use Rattle.station_file.specs.Read.{overlay};
+// What is written to a lent buffer, each to a part of it that it fills.
+ghost use Rattle.std.specs.Prelude.{◌≡◌, ◌*◌, ◌/◌, length};
 ghost use Rattle.station_file.specs.Answers.{written_by};
 ghost use Rattle.station_file.specs.Forms.{doubled, lowest_of};
 ghost use Rattle.station_file.specs.Write.{word_bytes, widen_of};
-ghost use Rattle.station_file.specs.Places.{words, splice};
+ghost use Rattle.station_file.specs.Places.{words_of};
 
 use crate::FileRefusal;
-use crate::two_bytes::{put_number, word};
 
-// So many bytes of a list, from a place of it to a place of another.
-pub(crate) fn copy_bytes(bytes: &[u8], from: usize, count: usize, out: &mut [u8], at: usize)
-    requires { (from + count ≤ length bytes.now) × (at + count ≤ length out.old) }
-    ensures { out.new ≡ splice at (take count (drop from bytes.now)) out.old }
+#[tactic(auto, using(crate::proofs::WordLists::words_by_index))]
+pub(crate) fn read_words(bytes: &[u8], rom: &mut [u16])
+    requires { length rom.old ≡ length bytes.now / 2 }
+    ensures { rom.new ≡ words_of bytes.now }
 {
-    let mut index = 0;
-    while index < count {
-        out[at + index] = bytes[from + index];
-        index += 1;
+    for (i, word) in rom.iter_mut().enumerate() {
+        *word = u16::from_be_bytes([bytes[2 * i], bytes[2 * i + 1]]);
     }
 }
 
-// So many words of a file.
-pub(crate) fn read_words(file: &[u8], from: usize, count: usize, rom: &mut [u16])
-    requires { (from + 2 * count ≤ length file.now) × (count ≤ length rom.old) }
-    ensures { rom.new ≡ overlay (words count (drop from file.now)) rom.old }
+pub(crate) fn put_words(rom: &[u16], out: &mut [u8])
+    requires { length out.old ≡ 2 * length rom.now }
+    ensures { out.new ≡ word_bytes rom.now }
 {
-    let mut index = 0;
-    let mut next = from;
-    while index < count {
-        rom[index] = word(file[next], file[next + 1]);
-        index += 1;
-        next += 2;
+    for (i, word) in rom.iter().enumerate() {
+        out[2 * i..2 * i + 2].copy_from_slice(&word.to_be_bytes());
     }
 }
 
-pub(crate) fn put_words(rom: &[u16], out: &mut [u8], at: usize)
-    requires { at + 2 * length rom.now ≤ length out.old }
-    ensures { out.new ≡ splice at (word_bytes rom.now) out.old }
+// Each level twice.
+#[tactic(auto, using(crate::proofs::Packing::doubled_by_index))]
+pub(crate) fn double_bytes(levels: &[u8], out: &mut [u8])
+    requires { length out.old ≡ 2 * length levels.now }
+    ensures { out.new ≡ doubled levels.now }
 {
-    let mut index = 0;
-    let mut next = at;
-    while index < rom.len() {
-        put_number(rom[index] as usize, out, next);
-        index += 1;
-        next += 2;
-    }
-}
-
-// So many bytes of a list, each twice, to the front of another.
-pub(crate) fn double_bytes(bytes: &[u8], from: usize, count: usize, out: &mut [u8])
-    requires { (from + count ≤ length bytes.now) × (2 * count ≤ length out.old) }
-    ensures { out.new ≡ overlay (doubled (take count (drop from bytes.now))) out.old }
-{
-    let mut index = 0;
-    let mut next = 0;
-    while index < count {
-        out[next] = bytes[from + index];
-        out[next + 1] = bytes[from + index];
-        index += 1;
-        next += 2;
+    for (i, level) in out.iter_mut().enumerate() {
+        *level = levels[i / 2];
     }
 }
 
 // The lowest level of each entry of a sheet.
-pub(crate) fn put_lowest(sheet: &[u8], out: &mut [u8], at: usize)
-    requires { at + length sheet.now / 2 ≤ length out.old }
-    ensures { out.new ≡ splice at (lowest_of sheet.now) out.old }
+#[tactic(auto, using(crate::proofs::Packing::lowest_by_index))]
+pub(crate) fn put_lowest(sheet: &[u8], out: &mut [u8])
+    requires { length out.old ≡ length sheet.now / 2 }
+    ensures { out.new ≡ lowest_of sheet.now }
 {
-    let count = sheet.len() / 2;
-    let mut index = 0;
-    while index < count {
-        out[at + index] = sheet[2 * index];
-        index += 1;
+    for (i, level) in out.iter_mut().enumerate() {
+        *level = sheet[2 * i];
     }
 }
 
@@ -80,10 +52,10 @@ pub(crate) fn put_lowest(sheet: &[u8], out: &mut [u8], at: usize)
 pub fn widen(levels: &[u8], out: &mut [u8]) -> Result<usize, FileRefusal>
     ensures { written_by result out.new ≡ widen_of levels.now out.old }
 {
-    let count = levels.len();
-    if out.len() / 2 < count {
+    if out.len() / 2 < levels.len() {
         return Err(FileRefusal::Room);
     }
-    double_bytes(levels, 0, count, out);
-    Ok(2 * count)
+    let size = 2 * levels.len();
+    double_bytes(levels, &mut out[..size]);
+    Ok(size)
 }

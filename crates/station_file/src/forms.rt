@@ -5,64 +5,54 @@ ghost use Rattle.station_file.specs.Forms.{form_for, all_equal};
 ghost use Rattle.station_file.specs.Places.{form_of};
 
 use crate::two_bytes::read_number;
-use crate::{Form, Number};
 
-// The most input records of a form with two-byte counts.
-const MOST_INPUTS: usize = 4095;
-
-fn form_1() -> Form
-    ensures { form_of result ≡ form1 }
-{
-    Form {
-        number: 1,
-        paired: false,
-        most: MOST_INPUTS,
-    }
+// Each form with its number. They differ in the bytes of a sheet's entry.
+#[derive(Clone, Copy)]
+pub(crate) enum Form {
+    One = 1,
+    Two = 2,
 }
 
-pub(crate) fn form_2() -> Form
-    ensures { form_of result ≡ form2 }
-{
-    Form {
-        number: 2,
-        paired: true,
-        most: MOST_INPUTS,
+impl Form {
+    // The number in the first two bytes of a file.
+    pub(crate) fn number(self) -> u16
+        ensures { result ≡ (form_of self).number }
+    {
+        self as u16
     }
-}
 
-// The bytes of an entry.
-pub(crate) fn entry_bytes(form: Form) -> usize
-    ensures { result ≡ (form_of form).entry_bytes }
-{
-    if form.paired {
-        return 2;
+    // The bytes of an entry.
+    pub(crate) fn entry_bytes(self) -> usize
+        ensures { result ≡ (form_of self).entry_bytes }
+    {
+        match self {
+            Form::One => 1,
+            Form::Two => 2,
+        }
     }
-    1
 }
 
 // The form of a file. One with another number is then refused by form 1.
+#[tactic(auto, unfolding(crate::specs::Forms::form_for))]
 pub(crate) fn form_of(file: &[u8]) -> Form
     ensures { form_of result ≡ form_for file.now }
 {
-    let Number::Is(number, _) = read_number(file, 0) else {
-        return form_1();
-    };
-    if number == 2 {
-        return form_2();
+    match read_number(file) {
+        Ok((2, _)) => Form::Two,
+        _ => Form::One,
     }
-    form_1()
 }
 
 // Whether each entry is one level.
 fn all_equal(sheet: &[u8]) -> bool
     ensures { result ≡ all_equal sheet.now }
 {
-    let mut at = 0;
-    while at + 1 < sheet.len() {
-        if sheet[at] != sheet[at + 1] {
+    let mut left = sheet;
+    while let [lowest, highest, rest @ ..] = left {
+        if lowest != highest {
             return false;
         }
-        at += 2;
+        left = rest;
     }
     true
 }
@@ -72,7 +62,8 @@ pub(crate) fn lowest_form(sheet: &[u8]) -> Form
     ensures { form_of result ≡ cond (all_equal sheet.now) form1 form2 }
 {
     if all_equal(sheet) {
-        return form_1();
+        Form::One
+    } else {
+        Form::Two
     }
-    form_2()
 }

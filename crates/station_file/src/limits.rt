@@ -2,20 +2,17 @@
 ghost use Rattle.std.specs.Prelude.{◌≡◌};
 ghost use Rattle.station_file.specs.Station.{rom_count, sheet_count};
 
+// The most input records of a file.
+pub(crate) const MOST_INPUTS: usize = 4095;
+
 pub(crate) fn rom_count(count: usize) -> bool
     ensures { result ≡ rom_count count }
 {
-    if count < 1 {
-        return false;
-    }
-    count <= 1024
+    matches!(count, 1..=1024)
 }
 
 pub(crate) fn sheet_count(words: usize, count: usize) -> bool
     ensures { result ≡ sheet_count words count }
 {
-    if count == 0 {
-        return true;
-    }
-    count == words
+    count == 0 || count == words
 }

@@ -1,44 +1,29 @@
 // The reader.
-ghost use Rattle.std.specs.Prelude.{◌≡◌, ◌+◌, ◌*◌, ◌≤◌, length, take, drop};
+ghost use Rattle.std.specs.Prelude.{◌≡◌, length};
 ghost use Rattle.station_file.specs.Forms.{ranges_of};
-ghost use Rattle.station_file.specs.Read.{overlay, read_of};
+ghost use Rattle.station_file.specs.Read.{read_of};
 ghost use Rattle.station_file.specs.Answers.{buffers_of, read_by};
-ghost use Rattle.station_file.specs.Places.{form_of, layout_refusal};
+ghost use Rattle.station_file.specs.Places.{form_of};
 
-use crate::copies::{copy_bytes, double_bytes, read_words};
-use crate::forms::form_of;
+use crate::copies::{double_bytes, read_words};
+use crate::forms::{Form, form_of};
 use crate::sections::parse;
-use crate::{FileRefusal, Form, Layout, Loaded};
+use crate::{FileRefusal, Loaded};
 
-fn layout_refusal(layout: Layout) -> FileRefusal
-    ensures { result ≡ layout_refusal layout }
+// The entries of a file, with two bytes each.
+#[tactic(auto, using(crate::proofs::Halves::length_doubled))]
+fn read_entries(bytes: &[u8], form: Form, sheet: &mut [u8])
+    requires { length sheet.old ≡ length (ranges_of (form_of form) bytes.now) }
+    ensures { sheet.new ≡ ranges_of (form_of form) bytes.now }
 {
-    match layout {
-        Layout::Station {
-            words: _,
-            rom_at: _,
-            entries: _,
-            sheet_at: _,
-            records: _,
-            inputs_at: _,
-        } => FileRefusal::Form,
-        Layout::Refused(refusal) => refusal,
-    }
-}
-
-// So many entries of a file, with two bytes each.
-fn read_entries(file: &[u8], from: usize, entries: usize, form: Form, sheet: &mut [u8])
-    requires { (from + (form_of form).entry_bytes * entries ≤ length file.now) × (2 * entries ≤ length sheet.old) }
-    ensures { sheet.new ≡ overlay (ranges_of (form_of form) (take ((form_of form).entry_bytes * entries) (drop from file.now))) sheet.old }
-{
-    if form.paired {
-        copy_bytes(file, from, 2 * entries, sheet, 0);
-    } else {
-        double_bytes(file, from, entries, sheet);
+    match form {
+        Form::One => double_bytes(bytes, sheet),
+        Form::Two => sheet.copy_from_slice(bytes),
     }
 }
 
 // Reads a file into the lent buffers, with two bytes to a sheet entry. A refused file writes nothing.
+#[tactic(auto, using(crate::proofs::Placing::refuses, crate::proofs::Placing::rom_full, crate::proofs::Placing::sheet_full, crate::proofs::Placing::inputs_full, crate::proofs::Placing::fills))]
 pub fn read(
     file: &[u8],
     rom: &mut [u16],
@@ -49,19 +34,10 @@ pub fn read(
         ≡ read_of file.now (buffers_of rom.old sheet.old inputs.old) }
 {
     let form = form_of(file);
-    let layout = parse(file, form);
-    let Layout::Station {
-        words,
-        rom_at,
-        entries,
-        sheet_at,
-        records,
-        inputs_at,
-    } = layout
-    else {
-        return Err(layout_refusal(layout));
-    };
-    let bytes = 11 * records;
+    let sections = parse(file, form)?;
+    let words = sections.rom.len() / 2;
+    let entries = sections.sheet.len() / form.entry_bytes();
+    let bytes = sections.inputs.len();
     if rom.len() < words {
         return Err(FileRefusal::Room);
     }
@@ -71,12 +47,12 @@ pub fn read(
     if inputs.len() < bytes {
         return Err(FileRefusal::Room);
     }
-    read_words(file, rom_at, words, rom);
-    read_entries(file, sheet_at, entries, form, sheet);
-    copy_bytes(file, inputs_at, bytes, inputs, 0);
+    read_words(sections.rom, &mut rom[..words]);
+    read_entries(sections.sheet, form, &mut sheet[..2 * entries]);
+    inputs[..bytes].copy_from_slice(sections.inputs);
     Ok(Loaded {
         words,
         entries,
-        records,
+        records: bytes / 11,
     })
 }

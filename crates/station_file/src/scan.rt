@@ -1,118 +1,83 @@
-// Whether the bytes of a sheet or of input records are in range. The reader scans a part of a file so, and the writer a whole
-// list.
-ghost use Rattle.std.specs.Prelude.{◌≡◌, true, ◌+◌, ◌≤◌, length, drop};
-ghost use Rattle.station_file.specs.Reading.{fields};
-ghost use Rattle.sheet.specs.Entry.{proper};
-ghost use Rattle.station_file.specs.Station.{most_level, input_byte, entry_to, entry_field, input_field};
-ghost use Rattle.station_file.specs.Places.{form_of, scanned, ScanFits, Passed, RecordGood};
+// Whether the bytes of a sheet or of input records are in range. The reader scans the part of a section that its file has, and the
+// writer a whole list.
+ghost use Rattle.std.specs.Prelude.{◌≡◌, nat_lt};
+ghost use Rattle.std.specs.List.{list_all};
+ghost use Rattle.sheet.specs.Entry.{proper, single};
+ghost use Rattle.station_file.specs.Station.{most_level, input_byte, entry_byte};
+ghost use Rattle.station_file.specs.Write.{every_at};
+ghost use Rattle.station_file.specs.Places.{form_of, proper_ranges};
 
-use crate::forms::entry_bytes;
-use crate::{FileRefusal, Form, Test};
+use crate::forms::Form;
 use sheet::Entry;
 
 // The highest level of a sheet in a file.
 const MOST_LEVEL: u8 = 5;
 
-// The byte at an index of the input records: a pin or a direction below 16, or a release below 2.
-fn proper_input(index: usize, byte: u8) -> bool
-    ensures { result ≡ input_byte index byte }
+// Each byte is a level or 15.
+fn proper_levels(bytes: &[u8]) -> bool
+    ensures { result ≡ list_all (λ b. proper most_level (single b)) bytes.now }
 {
-    if index % 11 == 10 {
-        return byte < 2;
-    }
-    byte < 16
+    bytes
+        .iter()
+        .all(|level| Entry::single(*level).is_proper(MOST_LEVEL))
 }
 
-// The byte at an index of a sheet, with the one before it: a level or 15, or the highest level of an entry.
-fn proper_entry(form: Form, before: u8, index: usize, byte: u8) -> bool
-    ensures { result ≡ proper most_level (entry_to (form_of form) before index byte) }
+// Each two bytes are the levels of an entry, and the last alone may be one.
+fn proper_ranges(bytes: &[u8]) -> bool
+    ensures { result ≡ proper_ranges bytes.now }
 {
-    if index % entry_bytes(form) == 0 {
-        return Entry::single(byte).is_proper(MOST_LEVEL);
-    }
-    let entry = Entry {
-        lowest: before,
-        highest: byte,
-    };
-    entry.is_proper(MOST_LEVEL)
-}
-
-// So many bytes of a sheet.
-pub(crate) fn entries(bytes: &[u8], at: usize, count: usize, form: Form) -> Test
-    requires { at ≤ length bytes.now }
-    ensures scanned { scanned bytes.now at count result ≡ fields (entry_field (form_of form) (drop at bytes.now)) 0 count (drop at bytes.now) }
-    ensures fits { ScanFits bytes.now at count result }
-{
-    let mut index = 0;
-    let mut next = at;
-    let mut before: u8 = 0;
-    while index < count {
-        if bytes.len() <= next {
-            return Test::Refused(FileRefusal::Early);
-        }
-        let byte = bytes[next];
-        if !proper_entry(form, before, index, byte) {
-            return Test::Refused(FileRefusal::Entry);
-        }
-        before = byte;
-        index += 1;
-        next += 1;
-    }
-    Test::Passed
-}
-
-// Ten nibbles and a release bit.
-fn whole_record(bytes: &[u8], at: usize) -> bool
-    requires { at + 11 ≤ length bytes.now }
-    ensures { result ≡ true → RecordGood bytes.now at }
-{
-    let mut column = 0;
-    while column < 10 {
-        if 16 <= bytes[at + column] {
+    let mut left = bytes;
+    while let [lowest, highest, rest @ ..] = left {
+        let entry = Entry {
+            lowest: *lowest,
+            highest: *highest,
+        };
+        if !entry.is_proper(MOST_LEVEL) {
             return false;
         }
-        column += 1;
+        left = rest;
     }
-    bytes[at + 10] < 2
+    proper_levels(left)
 }
 
-// How many bytes the good records at the front have. It takes a record at a time, which is quicker than byte by byte.
-fn good_records(bytes: &[u8], at: usize, count: usize) -> usize
-    requires { at ≤ length bytes.now }
-    ensures { (result ≤ count) × (at + result ≤ length bytes.now) × Passed input_byte (drop at bytes.now) count result }
+// The bytes of a sheet, the last entry of which may be cut.
+#[tactic(auto, using(crate::proofs::EntryBytes::levels_are, crate::proofs::EntryBytes::ranges_are))]
+pub(crate) fn entries(bytes: &[u8], form: Form) -> bool
+    ensures { result ≡ every_at (entry_byte (form_of form) bytes.now) 0 bytes.now }
 {
-    let mut index = 0;
-    let mut next = at;
-    while 11 <= count - index {
-        if bytes.len() - next < 11 {
-            return index;
-        }
-        if !whole_record(bytes, next) {
-            return index;
-        }
-        index += 11;
-        next += 11;
+    match form {
+        Form::One => proper_levels(bytes),
+        Form::Two => proper_ranges(bytes),
     }
-    index
 }
 
-// The good records first, then byte by byte from the first that is not.
-pub(crate) fn inputs(bytes: &[u8], at: usize, count: usize) -> Test
-    requires { at ≤ length bytes.now }
-    ensures scanned { scanned bytes.now at count result ≡ fields input_field 0 count (drop at bytes.now) }
-    ensures fits { ScanFits bytes.now at count result }
+// Each byte is a pin or a direction.
+fn nibbles(bytes: &[u8]) -> bool
+    ensures { result ≡ list_all (λ b. nat_lt b 16) bytes.now }
 {
-    let mut index = good_records(bytes, at, count);
-    let mut next = at + index;
-    while index < count {
-        if bytes.len() <= next {
-            return Test::Refused(FileRefusal::Early);
+    bytes.iter().all(|nibble| *nibble < 16)
+}
+
+// Five pins, five directions and a release bit.
+#[tactic(auto, using(crate::proofs::InputBytes::record_is))]
+fn proper_record(bytes: &[u8; 11]) -> bool
+    ensures { result ≡ every_at input_byte 0 bytes.now }
+{
+    let release = bytes[10];
+    nibbles(&bytes[..10]) && release < 2
+}
+
+// The bytes of input records, the last of which may be cut. It takes a record at a time, which is quicker than byte by byte.
+#[tactic(auto, using(crate::proofs::InputBytes::records_are, crate::proofs::InputBytes::nibbles_are))]
+pub(crate) fn inputs(bytes: &[u8]) -> bool
+    ensures { result ≡ every_at input_byte 0 bytes.now }
+{
+    let mut left = bytes;
+    while let Some((whole, rest)) = left.split_first_chunk::<11>() {
+        if !proper_record(whole) {
+            return false;
         }
-        if !proper_input(index, bytes[next]) {
-            return Test::Refused(FileRefusal::Entry);
-        }
-        index += 1;
-        next += 1;
+        left = rest;
     }
-    Test::Passed
+    nibbles(left)
 }

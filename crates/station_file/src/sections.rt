@@ -1,124 +1,87 @@
 // The file's sections, in their order. Nothing is written here.
-ghost use Rattle.std.specs.Prelude.{◌≡◌, ◌≤◌, length, drop};
+ghost use Rattle.std.specs.Prelude.{◌≡◌, ℕ, Bool, List, ◌≤◌};
+ghost use Rattle.std.specs.Fn.{AnyResult};
 ghost use Rattle.station_file.specs.Station.{rom_section, sheet_section, input_section, parse_of};
-ghost use Rattle.station_file.specs.Places.{form_of, form_section, after_form, opened, OpeningFits, words_in, bytes_in, SectionFits, refusal_in, station_in, LayoutFits};
+ghost use Rattle.station_file.specs.Places.{words_of, form_of, read_as, section_of, station_in};
 
-use crate::forms::entry_bytes;
-use crate::limits::{rom_count, sheet_count};
+use crate::forms::Form;
+use crate::limits::{MOST_INPUTS, rom_count, sheet_count};
 use crate::two_bytes::read_number;
-use crate::{FileRefusal, Form, Layout, Number, Opening, Section, Test, scan};
+use crate::{FileRefusal, scan};
 
-fn form_section(file: &[u8], form: Form) -> Opening
-    ensures parsed { opened form file.now result ≡ form_section (form_of form) file.now }
-    ensures fits { OpeningFits file.now result }
-{
-    let Number::Is(value, next) = read_number(file, 0) else {
-        return Opening::Refused(FileRefusal::Early);
-    };
-    if value != form.number {
-        return Opening::Refused(FileRefusal::Form);
-    }
-    Opening::At(next)
+// The bytes of each section of a good file, without its count.
+#[derive(Clone, Copy)]
+pub(crate) struct Sections<'a> {
+    pub(crate) rom: &'a [u8],
+    pub(crate) sheet: &'a [u8],
+    pub(crate) inputs: &'a [u8],
 }
 
-fn rom_section(file: &[u8], at: usize) -> Section
-    requires { at ≤ length file.now }
-    ensures parsed { words_in file.now result ≡ rom_section (drop at file.now) }
-    ensures fits { SectionFits 2 file.now result }
+// The elements of a section, of so many bytes each, and what is left after it. The count comes first; a fault of the bytes that the
+// file has comes before its end.
+fn section<'a, C: Fn(usize) -> bool, P: Fn(&[u8]) -> bool>(
+    file: &'a [u8],
+    width: usize,
+    allowed: C,
+    proper: P,
+) -> Result<(&'a [u8], &'a [u8]), FileRefusal>
+    requires width { width ≤ 11 }
+    requires count { C.IsAlwaysCallable allowed }
+    requires bytes { P.IsAlwaysCallable proper }
+    ensures { (count : ℕ → Bool) (test : List ℕ → Bool) → ((n : ℕ) → AnyResult C.Fn allowed (n, tt) (λ r. r ≡ count n)) → ((p : _) → AnyResult P.Fn proper (p, tt) (λ r. r ≡ test p.now)) → read_as (λ b. b.now) result ≡ section_of count test width file.now }
 {
-    let Number::Is(count, start) = read_number(file, at) else {
-        return Section::Refused(FileRefusal::Early);
-    };
-    if !rom_count(count) {
-        return Section::Refused(FileRefusal::Count);
+    let (count, rest) = read_number(file)?;
+    let count = usize::from(count);
+    if !allowed(count) {
+        return Err(FileRefusal::Count);
     }
-    if file.len() - start < 2 * count {
-        return Section::Refused(FileRefusal::Early);
+    let size = width * count;
+    if !proper(&rest[..size.min(rest.len())]) {
+        return Err(FileRefusal::Entry);
     }
-    Section::Good(count, start, start + 2 * count)
+    if rest.len() < size {
+        return Err(FileRefusal::Early);
+    }
+    Ok(rest.split_at(size))
 }
 
-fn sheet_section(file: &[u8], at: usize, words: usize, form: Form) -> Section
-    requires { at ≤ length file.now }
-    ensures parsed { bytes_in (form_of form).entry_bytes file.now result ≡ sheet_section (form_of form) words (drop at file.now) }
-    ensures fits { SectionFits (form_of form).entry_bytes file.now result }
+fn rom_section(file: &[u8]) -> Result<(&[u8], &[u8]), FileRefusal>
+    ensures { read_as (λ bytes. words_of bytes.now) result ≡ rom_section file.now }
 {
-    let Number::Is(count, start) = read_number(file, at) else {
-        return Section::Refused(FileRefusal::Early);
-    };
-    if !sheet_count(words, count) {
-        return Section::Refused(FileRefusal::Count);
-    }
-    let bytes = entry_bytes(form) * count;
-    match scan::entries(file, start, bytes, form) {
-        Test::Refused(fault) => Section::Refused(fault),
-        Test::Passed => Section::Good(count, start, start + bytes),
-    }
+    section(file, 2, rom_count, |_| true)
 }
 
-fn input_section(file: &[u8], at: usize, form: Form) -> Section
-    requires { at ≤ length file.now }
-    ensures parsed { bytes_in 11 file.now result ≡ input_section (form_of form) (drop at file.now) }
-    ensures fits { SectionFits 11 file.now result }
+fn sheet_section(file: &[u8], words: usize, form: Form) -> Result<(&[u8], &[u8]), FileRefusal>
+    ensures { read_as (λ bytes. bytes.now) result ≡ sheet_section (form_of form) words file.now }
 {
-    let Number::Is(count, start) = read_number(file, at) else {
-        return Section::Refused(FileRefusal::Early);
-    };
-    if form.most < count {
-        return Section::Refused(FileRefusal::Count);
-    }
-    match scan::inputs(file, start, 11 * count) {
-        Test::Refused(refusal) => Section::Refused(refusal),
-        Test::Passed => Section::Good(count, start, start + 11 * count),
-    }
+    section(
+        file,
+        form.entry_bytes(),
+        |count| sheet_count(words, count),
+        |bytes| scan::entries(bytes, form),
+    )
 }
 
-fn section_refusal(section: Section) -> FileRefusal
-    ensures { result ≡ refusal_in section }
+fn input_section(file: &[u8]) -> Result<(&[u8], &[u8]), FileRefusal>
+    ensures { (form : _) → read_as (λ bytes. bytes.now) result ≡ input_section (form_of form) file.now }
 {
-    match section {
-        Section::Good(_, _, _) => FileRefusal::Form,
-        Section::Refused(refusal) => refusal,
-    }
+    section(file, 11, |count| count <= MOST_INPUTS, scan::inputs)
 }
 
-fn after_form(file: &[u8], at: usize, form: Form) -> Layout
-    requires { at ≤ length file.now }
-    ensures parsed { station_in file.now (form_of form).entry_bytes result ≡ after_form (form_of form) (drop at file.now) }
-    ensures fits { LayoutFits file.now (form_of form).entry_bytes result }
+// The sections of a file, or its first refusal.
+#[tactic(auto, using(crate::proofs::WordLists::length_words), unfolding(crate::specs::Station::parse_of))]
+pub(crate) fn parse(file: &[u8], form: Form) -> Result<Sections<'_>, FileRefusal>
+    ensures { station_in result ≡ parse_of (form_of form) file.now }
 {
-    let rom = rom_section(file, at);
-    let Section::Good(words, rom_at, sheet_from) = rom else {
-        return Layout::Refused(section_refusal(rom));
-    };
-    let sheet = sheet_section(file, sheet_from, words, form);
-    let Section::Good(entries, sheet_at, inputs_from) = sheet else {
-        return Layout::Refused(section_refusal(sheet));
-    };
-    let inputs = input_section(file, inputs_from, form);
-    let Section::Good(records, inputs_at, end) = inputs else {
-        return Layout::Refused(section_refusal(inputs));
-    };
-    if end < file.len() {
-        return Layout::Refused(FileRefusal::After);
+    let (number, rest) = read_number(file)?;
+    if number != form.number() {
+        return Err(FileRefusal::Form);
     }
-    Layout::Station {
-        words,
-        rom_at,
-        entries,
-        sheet_at,
-        records,
-        inputs_at,
+    let (rom, rest) = rom_section(rest)?;
+    let (sheet, rest) = sheet_section(rest, rom.len() / 2, form)?;
+    let (inputs, rest) = input_section(rest)?;
+    if !rest.is_empty() {
+        return Err(FileRefusal::After);
     }
-}
-
-// Where each section of a file lies, or the file's first refusal.
-pub(crate) fn parse(file: &[u8], form: Form) -> Layout
-    ensures parsed { station_in file.now (form_of form).entry_bytes result ≡ parse_of (form_of form) file.now }
-    ensures fits { LayoutFits file.now (form_of form).entry_bytes result }
-{
-    match form_section(file, form) {
-        Opening::Refused(refusal) => Layout::Refused(refusal),
-        Opening::At(at) => after_form(file, at, form),
-    }
+    Ok(Sections { rom, sheet, inputs })
 }

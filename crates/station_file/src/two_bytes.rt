@@ -1,33 +1,25 @@
 // Numbers of two bytes, high byte first.
-ghost use Rattle.std.specs.Prelude.{◌≡◌, ◌+◌, ◌*◌, ◌≤◌, ◌<◌, length, drop};
+ghost use Rattle.std.specs.Prelude.{◌≡◌, length};
 ghost use Rattle.station_file.specs.Reading.{number};
 ghost use Rattle.station_file.specs.Write.{bytes_of};
-ghost use Rattle.station_file.specs.Places.{number_in, NumberFits, splice};
+ghost use Rattle.station_file.specs.Places.{read_as};
 
-use crate::Number;
+use crate::FileRefusal;
 
-pub(crate) fn word(high: u8, low: u8) -> u16
-    ensures { result ≡ high * 256 + low }
+// The number at the front of a file, and the bytes after it.
+#[tactic(auto, using(crate::proofs::TwoBytes::short, crate::proofs::TwoBytes::long))]
+pub(crate) fn read_number(file: &[u8]) -> Result<(u16, &[u8]), FileRefusal>
+    ensures { read_as (λ n. n) result ≡ number 2 file.now }
 {
-    (high as u16) * 256 + low as u16
+    let Some((bytes, rest)) = file.split_first_chunk::<2>() else {
+        return Err(FileRefusal::Early);
+    };
+    Ok((u16::from_be_bytes(*bytes), rest))
 }
 
-pub(crate) fn read_number(file: &[u8], at: usize) -> Number
-    requires { at ≤ length file.now }
-    ensures parsed { number_in file.now result ≡ number 2 (drop at file.now) }
-    ensures fits { NumberFits file.now result }
+pub(crate) fn put_number(value: u16, out: &mut [u8])
+    requires { length out.old ≡ 2 }
+    ensures { out.new ≡ bytes_of 2 value }
 {
-    if file.len() - at < 2 {
-        return Number::Early;
-    }
-    let value = word(file[at], file[at + 1]) as usize;
-    Number::Is(value, at + 2)
-}
-
-pub(crate) fn put_number(value: usize, out: &mut [u8], at: usize)
-    requires { at + 2 ≤ length out.old }
-    ensures { out.new ≡ splice at (bytes_of 2 value) out.old }
-{
-    out[at] = (value / 256 % 256) as u8;
-    out[at + 1] = (value % 256) as u8;
+    out.copy_from_slice(&value.to_be_bytes());
 }

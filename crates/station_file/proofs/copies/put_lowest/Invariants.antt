@@ -1,12 +1,5 @@
-use Rattle.station_file.specs.Forms.{lowest_of}
-use Rattle.station_file.specs.Places.{splice}
-use lib.ListN.{length, take}
-use Prim.Native.Nat.{◌-◌, ◌≤◌}
-use mathlib.Core.Path.{◌≡◌}
+use Rattle.std.proofs.Common.{◌≡◌, ℕ, ◌*◌, ◌<◌, get_or}
 use Rattle.station_file.proofs.copies.put_lowest.Given as goal
 
-abbrev pub invariant-loop-index : goal.invariant-loop-index
-invariant-loop-index l = (l.index ≤ l.count) × (length l.out ≡ length l.initial.out) × (l.out ≡ splice l.at (take l.index (lowest_of l.sheet)) l.initial.out)
-
-abbrev pub decreases-loop-index : goal.decreases-loop-index
-decreases-loop-index l = l.count - l.index
+abbrev pub invariant-loop-i : goal.invariant-loop-i
+invariant-loop-i l = (k : ℕ) → k < l.i → get_or l.out k 0 ≡ get_or l.sheet (2 * k) 0

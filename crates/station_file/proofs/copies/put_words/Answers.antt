@@ -1,38 +1,18 @@
-use borrow.Author.Rules.{rules}
-use Rattle.station_file.proofs.Splices.{splice_none, put_word}
-use Rattle.station_file.specs.Places.{splice}
-use Rattle.station_file.specs.Write.{word_bytes}
-use lib.Seq.{take-length}
-use lib.ListN.{length, take}
-use native.Mathlib.Omega.{arith}
-use Prim.Native.Nat.{ℕ}
-use mathlib.Core.List.{List}
-use mathlib.Core.Path.{◌≡◌, ◌∙◌, ap, refl}
+use Rattle.std.proofs.Common.{◌≡◌, ◌∙◌, ◌+◌, ◌*◌, ◌-◌, ◌≤◌, List, ℕ, ◌++◌, arith, length, take, sym, ap, get_or}
+use Rattle.std.proofs.lemmas.Slice.{take-put_mid}
+use Rattle.station_file.specs.Write.{bytes_of, word_bytes}
+use Rattle.station_file.proofs.WordLists.{word_bytes_suc}
 use Rattle.station_file.proofs.copies.put_words.Goals as goal
 
-pub loop-index-init : goal.loop-index-init
-loop-index-init c = (search rules, search rules, refl, splice_none c.args.at c.args.out.now)
-
-pub overflow_cast-rom : goal.overflow_cast-rom
-overflow_cast-rom c = omega (arith, c.shared_slice_known-in-loop-index-1.given c.loop-index.index)
-
-pub loop-index-preserved : goal.loop-index-preserved
-loop-index-preserved c =
-    let s = c in
-    let l = c.loop-index in
-    let p = c.put_number in (
-      search rules,
-      omega arith,
-      p.auto.out ∙ l.invariant.2,
-      put_word s.args.rom.now s.args.at s.args.out.now l.index l.next l.out p.new.out (search rules) s.requires l.invariant.1 l.invariant.3 p.ensures,
-    )
-
-pub shape_of-out : goal.shape_of-out
-shape_of-out c = c.loop-index.invariant.2
-
-pub returns : goal.returns
-returns c =
-    let s = c in
-    let l = c.loop-index in
-    let e : l.index ≡ length s.args.rom.now = omega arith in
-    l.invariant.3 ∙ ap (λ (ws : List ℕ). splice s.args.at (word_bytes ws) s.args.out.now) (ap (λ (k : ℕ). take k s.args.rom.now) e ∙ take-length s.args.rom.now)
+pub loop-i-preserved : goal.loop-i-preserved
+loop-i-preserved c =
+    let i = c.loop-i.i in
+    let word = c.copy_from_slice.ensures.after in
+    let same : c.copy_from_slice.new.self ≡ bytes_of 2 (get_or c.args.rom.now i 0) = grind arith in
+    let end : 2 * (i + 1) ≡ 2 * i + length c.copy_from_slice.new.self = omega (arith, ap length same) in
+    let room : 2 * i ≤ length c.loop-i.out = omega arith in
+    let more : i + 1 ≤ length c.args.rom.now = omega arith in
+    take-put_mid (2 * i) (2 * i + 2 - 2 * i) c.loop-i.out c.copy_from_slice.new.self (2 * (i + 1)) end room
+    ∙ ap (λ (l : List ℕ). l ++ c.copy_from_slice.new.self) c.loop-i.invariant
+    ∙ ap (λ (l : List ℕ). word_bytes (take i c.args.rom.now) ++ l) same
+    ∙ sym (word_bytes_suc c.args.rom.now i (omega arith))

@@ -1,12 +1,10 @@
+use Rattle.std.proofs.Common.{◌≡◌, length}
 use Rattle.station_file.specs.Station.{input_byte}
-use Rattle.station_file.proofs.Scanned.{To}
-use lib.ListN.{length, drop}
-use Prim.Native.Nat.{◌+◌, ◌-◌, ◌≤◌}
-use mathlib.Core.Path.{◌≡◌}
+use Rattle.station_file.specs.Write.{every_at}
 use Rattle.station_file.proofs.scan.inputs.Given as goal
 
-abbrev pub invariant-loop-index : goal.invariant-loop-index
-invariant-loop-index l = (l.index ≤ l.count) × (l.next ≡ l.at + l.index) × (l.next ≤ length l.bytes) × To input_byte (drop l.at l.bytes) l.count l.index
+abbrev pub invariant-loop-whole : goal.invariant-loop-whole
+invariant-loop-whole l = every_at input_byte 0 l.left ≡ every_at input_byte 0 l.bytes
 
-abbrev pub decreases-loop-index : goal.decreases-loop-index
-decreases-loop-index l = l.count - l.index
+abbrev pub decreases-loop-whole : goal.decreases-loop-whole
+decreases-loop-whole l = length l.left
