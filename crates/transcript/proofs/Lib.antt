@@ -6,3 +6,4 @@ pub mod Turns
 pub mod Writers
 pub mod Texts
 pub mod Parsed
+pub mod Requests

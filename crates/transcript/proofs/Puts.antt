@@ -1,13 +1,17 @@
 -- Texts put one after the other.
 -- Assumes nothing.
-use mathlib.Core.Path.{◌≡◌, ◌∙◌, sym, ap}
+use mathlib.Core.Path.{◌≡◌, ◌∙◌, refl, sym, ap}
 use mathlib.Core.List.{List, [], ◌∷◌, ◌++◌}
-use Prim.Native.Nat.{ℕ, suc, ◌+◌, ◌<◌, ◌≤◌}
+use Prim.Native.Nat.{ℕ, suc, ◌+◌, ◌^◌, ◌<◌, ◌≤◌}
 use native.Mathlib.Nat.{add-zero}
 use native.Mathlib.Omega.{arith}
 use lib.ListN.{length, get_or, take, set, length-append}
-use lib.Seq.{sets, sets-eq, take-suc, take_all, length-sets, length-take-le}
+use lib.Seq.{sets, sets-eq, take-suc}
+use borrow.Author.Tests.{le-leb, lt-leb}
 use Rattle.station_file.specs.Read.{overlay}
+use Rattle.transcript.specs.Print.{printed, refused}
+use Rattle.transcript.specs.Put.{put_of}
+use Rattle.transcript.specs.declared.Sink.{Sink}
 use Rattle.transcript.specs.Printing.{Wrote}
 
 sets_append : (a b l : List ℕ) (at : ℕ) → sets l at (a ++ b) ≡ sets (sets l at a) (at + length a) b
@@ -16,43 +20,65 @@ sets_append (x ∷ a) b l at =
     let e : at + suc (length a) ≡ suc at + length a = omega arith in
     rw e (sets_append a b (set l at x) (suc at))
 
--- one byte more of a text
-pub more : (text out : List ℕ) (at i : ℕ) → i < length text
-    → set (sets out at (take i text)) (at + i) (get_or text i 0) ≡ sets out at (take (i + 1) text)
-more text out at i h =
-    let n : i + 1 ≡ suc i = omega arith in
-    let l : length (take i text) ≡ i = length-take-le i text (omega arith) in
-    rw (n, take-suc text i 0 h) (sym (sets_append (take i text) (get_or text i 0 ∷ []) out at ∙ rw l))
+pub nothing : {most : ℕ} {x : Sink} → Wrote most [] x x
+nothing {most} {x} = record { same_buffer = refl; put = λ h. (refl, omega arith); short = omega arith }
 
--- all bytes of a text
-pub finished : (text out after : List ℕ) (at i : ℕ) → i ≤ length text → length text ≤ i → after ≡ sets out at (take i text)
-    → Wrote (length text) at text out after (at + i)
-finished text out after at i h k e =
-    record { bytes = e ∙ ap (sets out at) (take_all i text k); place = omega arith; short = omega arith }
-
-module _ {j k at r s : ℕ} {a b x y z : List ℕ} where
-  pub joined : (most : ℕ) → j + k ≤ most → Wrote j at a x y r → Wrote k r b y z s → Wrote most at (a ++ b) x z s
-  joined most h f g =
+module _ {j k : ℕ} {a b : List ℕ} {x y z : Sink} where
+  pub joined : Wrote j a x y → Wrote k b y z → Wrote (j + k) (a ++ b) x z
+  joined f g =
       record {
-        bytes = g.bytes ∙ ap (λ (l : List ℕ). sets l r b) f.bytes ∙ ap (λ (n : ℕ). sets (sets x at a) n b) f.place ∙ sym (sets_append a b x at);
-        place = rw (length-append a b) (omega (arith, f.place, g.place));
-        short = omega (arith, f.short, g.short);
+        same_buffer = g.same_buffer ∙ f.same_buffer;
+        put = λ h.
+            let p = f.put (omega (arith, length-append a b)) in
+            let q = g.put (omega (arith, length-append a b, p.1)) in (
+              q.0
+                  ∙ ap (λ (l : List ℕ). sets l y.at b) p.0
+                  ∙ ap (λ (n : ℕ). sets (sets x.out.now x.at a) n b) p.1
+                  ∙ sym (sets_append a b x.out.now x.at),
+              omega (arith, length-append a b, p.1, q.1),
+            );
+        short = omega (arith, length-append a b, f.short, g.short);
       }
 
--- the same text in other words
-pub reworded : {most at r : ℕ} {a b x y : List ℕ} → a ≡ b → Wrote most at a x y r → Wrote most at b x y r
-reworded {most} {at} {r} {a} {b} {x} {y} e w = rw (← e) w
+module _ {j : ℕ} {a : List ℕ} {x y : Sink} where
+  -- the same text in other words
+  pub reworded : {b : List ℕ} → a ≡ b → Wrote j a x y → Wrote j b x y
+  reworded e w = rw (← e) w
 
--- another bound
-pub bounded : {j at r : ℕ} {a x y : List ℕ} → (most : ℕ) → r ≤ at + most → Wrote j at a x y r → Wrote most at a x y r
-bounded most h w = record { bytes = w.bytes; place = w.place; short = h }
+  -- another bound
+  pub bounded : (most : ℕ) → j ≤ most → Wrote j a x y → Wrote most a x y
+  bounded most h w = record { same_buffer = w.same_buffer; put = w.put; short = omega (arith, w.short) }
 
--- a buffer keeps its length
-pub as_long : {most at r : ℕ} {text x y : List ℕ} → Wrote most at text x y r → length y ≡ length x
-as_long {most} {at} {r} {text} {x} {y} w = ap length w.bytes ∙ length-sets x at text
+  pub shorter : (most : ℕ) → length a ≤ most → Wrote j a x y → Wrote most a x y
+  shorter most h w = record { same_buffer = w.same_buffer; put = w.put; short = h }
+
+  -- from the front on
+  pub from_front : {before : List ℕ} → x.out.now ≡ before → x.at ≡ 0 → j < 2 ^ 64 → Wrote j a x y → (y.out.now ≡ sets before 0 a) × (y.at ≡ length a)
+  from_front {before} e f h w =
+      let p = w.put (omega (arith, w.short)) in
+      (p.0 ∙ ap (λ (n : ℕ). sets x.out.now n a) f ∙ ap (λ (l : List ℕ). sets l 0 a) e, omega (arith, p.1))
+
+-- one byte more of a text
+pub more : (text : List ℕ) (i : ℕ) {x y z : Sink} → i < length text → Wrote i (take i text) x y → Wrote 1 (get_or text i 0 ∷ []) y z
+    → Wrote (i + 1) (take (i + 1) text) x z
+more text i h f g =
+    let n : i + 1 ≡ suc i = omega arith in
+    let e : take i text ++ (get_or text i 0 ∷ []) ≡ take (i + 1) text = rw (n, take-suc text i 0 h) in
+    reworded e (joined f g)
 
 -- a text that fits
 pub fitting : (text out : List ℕ) → length text ≤ length out → sets out 0 text ≡ overlay text out
 fitting text out h =
     let e : 0 + length text ≡ length text = omega arith in
     sets-eq text out 0 (omega arith) ∙ rw e
+
+-- what is answered for a text in a lent buffer
+module _ (text out : List ℕ) where
+  pub put_short : length out < length text → record { reply = refused 25; out = out } ≡ put_of text out
+  unfolding put_of
+  put_short h = rw (lt-leb (length text) (length out) h)
+
+  pub put_long : (after : List ℕ) (n : ℕ) → n ≡ length text → length text ≤ length out → after ≡ sets out 0 text
+      → record { reply = printed n; out = after } ≡ put_of text out
+  unfolding put_of
+  put_long after n e h f = rw (le-leb (length text) (length out) h, f, fitting text out h, e)

@@ -17,7 +17,9 @@ use Rattle.cpu.specs.Cost.{plus, cost_of}
 use Rattle.cpu.specs.Cycles.{next_cycles}
 use Rattle.cpu.specs.Reply.{Reply, done, in_standby, refused}
 use Rattle.cpu.specs.declared.Count.{Count}
+use Rattle.std.specs.Prelude.{Option, Some}
 use Rattle.transcript.specs.declared.Progress as code
+use Rattle.transcript.specs.declared.Sink.{Sink}
 use Rattle.transcript.specs.declared.Writer as code_writer
 use Rattle.transcript.specs.Finding.{found_text}
 use Rattle.transcript.specs.Printing.{progress_in, Recorded, RecordedTo, input_at, up_to}
@@ -83,24 +85,24 @@ module _ (rom inputs : List ℕ) (cell k : ℕ) where
   -- by what is known of the definition alone
   by_steps : (m after : Machine) (gone : Bool) → m ≡ machine_at rom inputs k → after ≡ machine_at rom inputs (suc k)
       → gone ≡ (is_reached rom inputs k && is_done (step_at rom inputs k).reply)
-      → (found : code_writer.Writer) → found_text found ≡ said (last_writer rom inputs cell k)
-      → found_text (cond (gone && rest m) (told (k + 1) m after) found) ≡ said (last_writer rom inputs cell (k + 1))
+      → (found : Option code_writer.Writer) → found_text found ≡ said (last_writer rom inputs cell k)
+      → found_text (cond (gone && rest m) (Some (told (k + 1) m after)) found) ≡ said (last_writer rom inputs cell (k + 1))
   unfolding last_writer wrote
   by_steps m after gone e f g found h = rw (add-one k, e, f, g, and_assoc (is_reached rom inputs k) (is_done (step_at rom inputs k).reply) (rest (machine_at rom inputs k))) (by (wrote rom inputs cell k) refl)
     where
       by : (b : Bool) → wrote rom inputs cell k ≡ b
-          → found_text (cond (wrote rom inputs cell k) (told (suc k) (machine_at rom inputs k) (machine_at rom inputs (suc k))) found)
+          → found_text (cond (wrote rom inputs cell k) (Some (told (suc k) (machine_at rom inputs k) (machine_at rom inputs (suc k)))) found)
           ≡ said (cond (wrote rom inputs cell k) (suc k) (last_writer rom inputs cell k))
       by true w =
           let m = machine_at rom inputs k in
-          rw (w, ne_eqb (suc k) 0 (λ z. omega (arith, z)))
+          rw w
           (ap (λ (x : Machine). written_line (suc k) m.control.pc (get_or rom m.control.pc 0) (get_or (cells_of x) cell 0))
           (goes rom inputs k (both (is_reached rom inputs k) _ w).0))
       by false w = rw w h
 
-  pub one_newer : {from : ℕ} {x y z : List ℕ} (p r : code.Progress) → RecordedTo rom inputs k from x y p → Recorded rom (k + 1) (input_at k inputs) p y z r
-      → (found : code_writer.Writer) → found_text found ≡ said (last_writer rom inputs cell k)
-      → found_text (cond (not (eqb r.count.steps p.count.steps) && rest p.machine) (told (k + 1) p.machine r.machine) found)
+  pub one_newer : {x y z : Sink} (p r : code.Progress) → RecordedTo rom inputs k x y p → Recorded rom (k + 1) (input_at k inputs) p y z r
+      → (found : Option code_writer.Writer) → found_text found ≡ said (last_writer rom inputs cell k)
+      → found_text (cond (not (eqb r.count.steps p.count.steps) && rest p.machine) (Some (told (k + 1) p.machine r.machine)) found)
       ≡ said (last_writer rom inputs cell (k + 1))
   one_newer p r f g found h =
       let same : progress_in r ≡ (record_of rom (k + 1) (input_at k inputs) (up_to rom inputs k).progress).progress

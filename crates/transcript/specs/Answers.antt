@@ -1,14 +1,14 @@
--- What `transcript` answers, in the numbers of document 01, "Refusal numbers".
+-- What `transcript` and `why` answer, in the numbers of document 01, "Refusal numbers".
 -- Assumes nothing.
-use Rattle.std.specs.Prelude.{List, ℕ}
+use Rattle.std.specs.Prelude.{List, ℕ, Result, Ok, Err}
+use Rattle.station_file.specs.Answers.{file_number}
+use Rattle.station_file.specs.declared.FileRefusal.{FileRefusal}
 use Rattle.transcript.specs.Print.{Reply, printed, refused, Print}
-use Rattle.transcript.specs.declared.Printed.{Printed}
-use Rattle.transcript.specs.declared.Printed.TheVariants.{Text, TooShort}
 
-abbrev pub print_reply : Printed → Reply
-print_reply (Text n) = printed n
-print_reply TooShort = refused 25
+abbrev pub print_reply : Result ℕ FileRefusal → Reply
+print_reply (Ok n) = printed n
+print_reply (Err f) = refused (file_number f)
 
 -- the answer, with what the lent buffer then holds
-abbrev pub printed_by : Printed → List ℕ → Print
+abbrev pub printed_by : Result ℕ FileRefusal → List ℕ → Print
 printed_by r out = record { reply = print_reply r; out = out }

@@ -1,31 +1,17 @@
 // The input records of a station's bytes.
-ghost use Rattle.std.specs.Prelude.{◌≡◌, ◌+◌, ◌*◌, ◌≤◌, length, take, drop};
+ghost use Rattle.std.specs.Prelude.{◌≡◌};
 ghost use Rattle.transcript.specs.Printing.{input_at};
 
 use machine::Input;
 
-fn five(bytes: &[u8], at: usize) -> [u8; 5]
-    requires { at + 5 ≤ length bytes.now }
-    ensures { result ≡ take 5 (drop at bytes.now) }
+// A record's five pins, five directions and release.
+pub(crate) fn input_of(bytes: &[u8; 11]) -> Input
+    ensures { result ≡ input_at 0 bytes.now }
 {
-    [
-        bytes[at],
-        bytes[at + 1],
-        bytes[at + 2],
-        bytes[at + 3],
-        bytes[at + 4],
-    ]
-}
-
-// The record with an index, eleven bytes each.
-pub(crate) fn input_at(bytes: &[u8], k: usize) -> Input
-    requires { 11 * k + 11 ≤ length bytes.now }
-    ensures { result ≡ input_at k bytes.now }
-{
-    let at = 11 * k;
+    let [p0, p1, p2, p3, p4, d0, d1, d2, d3, d4, release] = *bytes;
     Input {
-        pins: five(bytes, at),
-        directions: five(bytes, at + 5),
-        release: bytes[at + 10],
+        pins: [p0, p1, p2, p3, p4],
+        directions: [d0, d1, d2, d3, d4],
+        release,
     }
 }

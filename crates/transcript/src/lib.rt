@@ -2,6 +2,10 @@
 
 #![tactic(auto)]
 
+ghost use Rattle.std.specs.Prelude.{◌≡◌};
+ghost use Rattle.transcript.specs.Finding.{why_number};
+ghost use Rattle.transcript.specs.declared.WhyRefusal.TheVariants.{File};
+
 mod explain;
 mod file;
 mod inputs;
@@ -13,19 +17,18 @@ mod whole;
 use cpu::Count;
 pub use explain::why;
 pub use file::transcript;
-use machine::Machine;
+use machine::{Machine, Refusal};
+use station_file::FileRefusal;
 
-// What `transcript` answers.
-#[derive(Clone, Copy)]
-pub enum Printed {
-    // The text's length.
-    Text(usize),
-    // The lent buffer is too short: refusal 25.
-    TooShort,
+// A lent buffer, and the place of the next byte. What does not fit is left out, and the place still moves on, so that one pass
+// over a short buffer measures a text and another prints it.
+#[derive(Drop)]
+struct Sink<'a> {
+    out: &'a mut [u8],
+    at: usize,
 }
 
-// The step that wrote the cell last, so far: the record's number, the PC and the word before it, and the nibble after it.
-// Number 0 is none.
+// A step that wrote the cell: the record's number, the PC and the word before it, and the nibble after it.
 #[derive(Clone, Copy)]
 struct Writer {
     number: u16,
@@ -34,12 +37,38 @@ struct Writer {
     nibble: u8,
 }
 
-// How far the records have come: the machine, the steps completed with their cycles, the refusal or 0, and where the text
-// goes on.
+// How far the records have come: the machine, the steps completed with their cycles, and the refusal.
 #[derive(Clone, Copy)]
 struct Progress {
     machine: Machine,
     count: Count,
-    refusal: u16,
-    at: usize,
+    refusal: Option<Refusal>,
+}
+
+// Why a request is refused: as its file is, or with 32 for a cell above 7FH, or with 33 for more records than there are.
+#[derive(Clone, Copy)]
+enum WhyRefusal {
+    File(FileRefusal),
+    Cell,
+    Count,
+}
+
+impl From<FileRefusal> for WhyRefusal {
+    ghost from_gives = { λ refusal why. why ≡ File refusal };
+
+    fn from(refusal: FileRefusal) -> WhyRefusal {
+        WhyRefusal::File(refusal)
+    }
+}
+
+impl From<WhyRefusal> for u8 {
+    ghost from_gives = { λ refusal number. number ≡ why_number refusal };
+
+    fn from(refusal: WhyRefusal) -> u8 {
+        match refusal {
+            WhyRefusal::File(refusal) => u8::from(refusal),
+            WhyRefusal::Cell => 32,
+            WhyRefusal::Count => 33,
+        }
+    }
 }

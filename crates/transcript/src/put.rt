@@ -1,44 +1,71 @@
-// Text put into a lent buffer. What does not fit is left out, and the place still moves on, so that one pass over a
-// short buffer measures a text and another prints it.
-ghost use Rattle.std.specs.Prelude.{◌≡◌, ◌+◌, ◌≤◌, length, set};
+// Texts put into a lent buffer, one after the other.
+ghost use Rattle.std.specs.Prelude.{◌≡◌, ◌≤◌, List, ℕ, length, [], ◌∷◌};
+ghost use Rattle.std.specs.Borrow.{MutBor};
+ghost use Rattle.transcript.specs.Answers.{printed_by};
 ghost use Rattle.transcript.specs.Printing.{Wrote};
-ghost use Rattle.transcript.specs.Text.{decimal as decimalOf};
+ghost use Rattle.transcript.specs.Put.{put_of};
+ghost use Rattle.transcript.specs.declared.Sink.{Sink as Buffered};
 
-fn put_byte(out: &mut [u8], at: usize, b: u8)
-    ensures { out.new ≡ set out.old at b }
-{
-    if out.len() <= at {
-        return;
+use crate::Sink;
+use itoa::{Buffer, Integer};
+use station_file::FileRefusal;
+
+impl<'a> Sink<'a> {
+    // At the buffer's front.
+    pub(crate) fn new(out: &'a mut [u8]) -> Self
+        ensures same_buffer { result.out.ghost_name ≡ out.entry.ghost_name }
+        ensures untouched { result.out.now ≡ out.old }
+        ensures front { result.at ≡ 0 }
+    {
+        Sink { out, at: 0 }
     }
-    out[at] = b;
+
+    fn put_byte(&mut self, byte: u8)
+        ensures { Wrote 1 (byte ∷ []) self.old self.new }
+    {
+        if self.at < self.out.len() {
+            self.out[self.at] = byte;
+        }
+        self.at = self.at.saturating_add(1);
+    }
+
+    pub(crate) fn put(&mut self, text: &[u8])
+        ensures { Wrote (length text.now) text.now self.old self.new }
+    {
+        for byte in text {
+            self.put_byte(*byte);
+        }
+    }
+
+    // In decimal, with no zero before it.
+    pub(crate) fn put_decimal<I: Integer>(&mut self, number: I)
+        ensures { Wrote I.MAX_STR_LEN (I.text number) self.old self.new }
+    {
+        self.put(Buffer::new().format(number).as_bytes());
+    }
 }
 
-pub(crate) fn put(out: &mut [u8], at: usize, text: &[u8]) -> usize
-    requires { at + length text.now ≤ 1000000 }
-    ensures { Wrote (length text.now) at text.now out.old out.new result }
+// Prints a text of `most` bytes at most into a lent buffer, and answers its length. One that is too long for the buffer leaves it
+// as it is, so where that may be the text is measured first.
+pub(crate) fn put_whole<F: Fn(&mut Sink)>(
+    out: &mut [u8],
+    most: usize,
+    print: F,
+) -> Result<usize, FileRefusal>
+    ghost text: { List ℕ }
+    requires callable { F.IsAlwaysCallable print }
+    requires prints { (sink : MutBor Buffered) (after : MutBor Buffered) → F.post print sink tt after → Wrote most text sink.now after.now }
+    ensures printed { printed_by result out.new ≡ put_of text out.old }
+    ensures never_longer { length text ≤ most }
 {
-    let mut i: usize = 0;
-    while i < text.len() {
-        put_byte(out, at + i, text[i]);
-        i += 1;
+    if out.len() < most {
+        let mut nowhere = Sink::new(&mut []);
+        print(&mut nowhere);
+        if out.len() < nowhere.at {
+            return Err(FileRefusal::Room);
+        }
     }
-    at + i
-}
-
-// In decimal, with no zero before it.
-pub(crate) fn put_decimal(out: &mut [u8], at: usize, n: u16) -> usize
-    requires { at ≤ 900000 }
-    ensures { Wrote 5 at (decimalOf n) out.old out.new result }
-{
-    let mut digits = [0u8; 5];
-    let mut i: usize = 5;
-    let mut rest = n;
-    while 10 <= rest {
-        i -= 1;
-        digits[i] = text::hex_digit((rest % 10) as u8);
-        rest = rest / 10;
-    }
-    i -= 1;
-    digits[i] = text::hex_digit(rest as u8);
-    put(out, at, &digits[i..])
+    let mut sink = Sink::new(out);
+    print(&mut sink);
+    Ok(sink.at)
 }

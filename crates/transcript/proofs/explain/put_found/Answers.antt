@@ -1,9 +1,10 @@
 use native.Mathlib.Omega.{arith}
-use borrow.Author.Tests.{ne_eqb}
-use Rattle.transcript.proofs.Puts.{joined, reworded}
+use borrow.Author.Rules.{rules}
+use Rattle.transcript.proofs.Decimals.{std_same}
+use Rattle.transcript.proofs.Puts.{bounded, joined, reworded}
 use Rattle.transcript.proofs.explain.put_found.Goals as goal
 
 pub returns : goal.returns
 returns c =
-    rw (ne_eqb _ _ c.if-w-eq0.false)
-    (joined 17 (omega arith) c.put_decimal-next.ensures (reworded c.after_number-rest.ensures c.put-2.ensures))
+    bounded 17 (search rules)
+    (joined (reworded (std_same _ (omega arith)) c.put_decimal.ensures) (reworded c.after_number.ensures c.put.ensures))

@@ -1,47 +1,50 @@
-use mathlib.Core.Path.{◌≡◌, ◌∙◌, sym, ap}
+use mathlib.Core.Path.{◌∙◌, sym, ap}
 use native.Mathlib.Omega.{arith}
-use Rattle.station_file.specs.Answers.{file_number, buffers_of, read_by}
+use lib.Seq.{length-take-le}
+use Rattle.station_file.specs.Answers.{buffers_of}
 use Rattle.station_file.specs.Forms.{load_of}
-use Rattle.station_file.specs.declared.Loaded.{Loaded}
 use Rattle.transcript.specs.Transcript.{station_text, transcript_of}
 use Rattle.transcript.specs.Why.{refusal_line}
 use Rattle.transcript.proofs.Parsed.{Loads, loads, bad, told_same}
 use Rattle.transcript.proofs.Puts.{bounded, reworded}
 use Rattle.transcript.proofs.file.put_file.Goals as goal
-use Rattle.transcript.proofs.file.put_file.Goals.{In-Refused, In-Station}
+use Rattle.transcript.proofs.file.put_file.Goals.{In-Ok}
 
 -- the station stands in the buffers
-loaded : (c : In-Station) → Loads (load_of c.args.file.now) c.in-Station.words c.in-Station.entries c.in-Station.records
+loaded : (c : In-Ok) → Loads (load_of c.args.file.now) c.in-Ok.loaded.words c.in-Ok.loaded.entries c.in-Ok.loaded.records
     (buffers_of c.read.new.rom c.read.new.sheet c.read.new.inputs)
-loaded c =
-    loads _ _ _ _ _
-    (sym (ap (λ (r : Loaded). read_by r (buffers_of c.read.new.rom c.read.new.sheet c.read.new.inputs)) c.in-Station.is) ∙ c.read.ensures)
+loaded c = loads _ _ _ _ _ c.in-Ok.ensures
 
--- the file is bad
-refused : (c : In-Refused) → refusal_line (file_number c.in-Refused.refusal) ≡ transcript_of c.args.file.now
+pub slice_bounds-rom-end : goal.slice_bounds-rom-end
+slice_bounds-rom-end c = (loaded (goal.at.slice_bounds-rom-end c).In-Ok).rom
+
+pub slice_bounds-put_station-end : goal.slice_bounds-put_station-end
+slice_bounds-put_station-end c = sym (length-take-le _ _ (loaded (goal.at.slice_bounds-put_station-end c).In-Ok).rom)
+
+pub overflow_mul-sheet : goal.overflow_mul-sheet
+overflow_mul-sheet c = omega (arith, (loaded (goal.at.overflow_mul-sheet c).In-Ok).even)
+
+pub slice_bounds-sheet-end : goal.slice_bounds-sheet-end
+slice_bounds-sheet-end c = (loaded (goal.at.slice_bounds-sheet-end c).In-Ok).sheet
+
+pub slice_bounds-put_station-end-in-Ok : goal.slice_bounds-put_station-end-in-Ok
+slice_bounds-put_station-end-in-Ok c = sym (length-take-le _ _ (loaded (goal.at.slice_bounds-put_station-end-in-Ok c).In-Ok).sheet)
+
+pub overflow_mul-inputs : goal.overflow_mul-inputs
+overflow_mul-inputs c = omega (arith, (loaded (goal.at.overflow_mul-inputs c).In-Ok).few)
+
+pub slice_bounds-inputs-end : goal.slice_bounds-inputs-end
+slice_bounds-inputs-end c = (loaded (goal.at.slice_bounds-inputs-end c).In-Ok).inputs
+
+pub slice_bounds-put_station-end-in-Ok-2 : goal.slice_bounds-put_station-end-in-Ok-2
+slice_bounds-put_station-end-in-Ok-2 c = sym (length-take-le _ _ (loaded (goal.at.slice_bounds-put_station-end-in-Ok-2 c).In-Ok).inputs)
+
+pub returns-in-Ok : goal.returns-in-Ok
 unfolding transcript_of
-refused c =
-    bad _ _ _
-    (sym (ap (λ (r : Loaded). read_by r (buffers_of c.read.new.rom c.read.new.sheet c.read.new.inputs)) c.in-Refused.is) ∙ c.read.ensures) station_text
-    ∙ told_same (load_of c.args.file.now)
+returns-in-Ok c = reworded ((loaded (goal.at.returns-in-Ok c).In-Ok).text station_text ∙ told_same (load_of c.args.file.now)) c.put_station.ensures
 
-pub overflow_mul-entries : goal.overflow_mul-entries
-overflow_mul-entries c = omega (arith, (loaded (goal.at.overflow_mul-entries c).In-Station).even)
-
-pub overflow_mul-records : goal.overflow_mul-records
-overflow_mul-records c = omega (arith, (loaded (goal.at.overflow_mul-records c).In-Station).few)
-
-pub put_front-requires : goal.put_front-requires
-put_front-requires c =
-    let l = loaded (goal.at.put_front-requires c).In-Station in
-    (l.rom, l.sheet, l.inputs, l.few)
-
-pub returns-in-Station : goal.returns-in-Station
+pub returns-in-Err : goal.returns-in-Err
 unfolding transcript_of
-returns-in-Station c = reworded ((loaded (goal.at.returns-in-Station c).In-Station).text station_text ∙ told_same (load_of c.args.file.now)) c.put_front.ensures
-
-pub returns-in-Refused : goal.returns-in-Refused
-returns-in-Refused c =
-    let p = c.put_bad_file.ensures in
-    bounded 100000 (omega (arith, p.short))
-    (reworded (ap refusal_line c.refusal_number.ensures ∙ refused (goal.at.returns-in-Refused c).In-Refused) p)
+returns-in-Err c =
+    bounded 100000 (omega arith)
+    (reworded (ap refusal_line c.from.ensures ∙ bad _ _ _ c.in-Err.ensures station_text ∙ told_same (load_of c.args.file.now)) c.put_bad_file.ensures)
