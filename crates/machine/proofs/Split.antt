@@ -1,7 +1,7 @@
 -- Cells in range, as the code tests them: every one a nibble, those that the chip lacks 0, and seven by the bits that stay there.
 -- Assumes nothing.
-use mathlib.Core.Path.{◌≡◌, ◌∙◌, refl, subst, sym}
-use mathlib.Core.Bool.{Bool, true, false, ◌&&◌, ◌||◌}
+use mathlib.Core.Path.{◌≡◌, ◌∙◌, ap, refl, subst, sym}
+use mathlib.Core.Bool.{Bool, true, false, ◌&&◌, ◌||◌, and-false}
 use mathlib.Core.List.{List}
 use Prim.Native.Nat.{ℕ, ◌<◌}
 use native.Mathlib.Omega.{arith}
@@ -87,6 +87,12 @@ module _ (model : Model) (cells : List ℕ) where
       one (and_right (every empty 128) seven others) k h (every_at_lem (is_nibble cells) 128 nibbles k h) ((chip_of model).installed k) refl
       (every_at_lem empty 128 (and_left (every empty 128) seven others) k h))
 
-  pub split : (every (is_nibble cells) 128 && rest) ≡ cells_in_range (chip_of model) cells
+  split : (every (is_nibble cells) 128 && rest) ≡ cells_in_range (chip_of model) cells
   unfolding cells_in_range
   split = same (every (is_nibble cells) 128 && rest) (every fits 128) joined parts
+
+  -- in the order of the code
+  pub by_tests : (e n f : Bool) → e ≡ every empty 128 → n ≡ every (is_nibble cells) 128 → f ≡ seven → (e && (n && f)) ≡ cells_in_range (chip_of model) cells
+  by_tests true n f p q r = rw (q, r) (ap (λ (b : Bool). every (is_nibble cells) 128 && (b && seven)) p ∙ split)
+  by_tests false n f p q r =
+      sym (ap (λ (b : Bool). every (is_nibble cells) 128 && (b && seven)) (sym p) ∙ and-false (every (is_nibble cells) 128)) ∙ split

@@ -8,18 +8,16 @@ ghost use Rattle.machine.specs.Ranges.{is_nibble};
 
 use memory::{Memory, Model};
 
-// Whether every cell holds a nibble: no bit of any is above the lowest four.
+// Whether every cell holds a nibble: no bit of any is above the lowest four. The bits are joined and tested once, here and in
+// `missing_empty`, which the compiler does in vector registers: by `all` it took four times as long, and there twenty times.
 fn all_nibbles(cells: &[u8; 128]) -> bool
     ensures { result ≡ every (is_nibble cells.now) 128 }
 {
-    let mut bits: u8 = 0;
-    for i in 0..128usize {
-        bits = bits | cells[i];
-    }
-    bits < 16
+    cells.iter().fold(0, |bits, cell| bits | *cell) < 16
 }
 
 // Whether a cell holds only bits that stay.
+#[tactic(auto, unfolding(memory::specs::Write::kept_of))]
 fn stays(model: Model, cells: &[u8; 128], at: u8) -> bool
     requires { at < 128 }
     ensures { result ≡ cell_in_range (chip_of model) cells.now at }
@@ -32,35 +30,20 @@ fn stays(model: Model, cells: &[u8; 128], at: u8) -> bool
 fn fixed_bits(model: Model, cells: &[u8; 128]) -> bool
     ensures { result ≡ fixed_in_range (chip_of model) cells.now }
 {
-    if !stays(model, cells, Memory::AR3) {
-        return false;
-    }
-    if !stays(model, cells, Memory::BANK) {
-        return false;
-    }
-    if !stays(model, cells, Memory::RPH) {
-        return false;
-    }
-    if !stays(model, cells, Memory::AR2) {
-        return false;
-    }
-    if !stays(model, cells, Memory::IXH) {
-        return false;
-    }
-    if !stays(model, cells, Memory::IXM) {
-        return false;
-    }
-    stays(model, cells, Memory::P0E)
+    stays(model, cells, Memory::AR3)
+        && stays(model, cells, Memory::BANK)
+        && stays(model, cells, Memory::RPH)
+        && stays(model, cells, Memory::AR2)
+        && stays(model, cells, Memory::IXH)
+        && stays(model, cells, Memory::IXM)
+        && stays(model, cells, Memory::P0E)
 }
 
 // What a cell must not hold: anything, where it is not installed.
 fn surplus(model: Model, at: u8, v: u8) -> u8
     ensures { result ≡ cond ((chip_of model).installed at) 0 v }
 {
-    if model.is_installed(at) {
-        return 0;
-    }
-    v
+    if model.is_installed(at) { 0 } else { v }
 }
 
 // Whether every cell that the chip lacks is 0.
@@ -70,9 +53,9 @@ fn missing_empty(model: Model, cells: &[u8; 128]) -> bool
     if model.is_whole() {
         return true;
     }
-    let mut bits: u8 = 0;
-    for i in 0..128u8 {
-        bits = bits | surplus(model, i, cells[i as usize]);
+    let mut bits = 0;
+    for (at, cell) in cells.iter().enumerate() {
+        bits |= surplus(model, at as u8, *cell);
     }
     bits == 0
 }
@@ -84,8 +67,5 @@ pub fn in_range(model: Model, cells: &[u8; 128]) -> bool
     if !missing_empty(model, cells) {
         return false;
     }
-    if !all_nibbles(cells) {
-        return false;
-    }
-    fixed_bits(model, cells)
+    all_nibbles(cells) && fixed_bits(model, cells)
 }

@@ -12,7 +12,7 @@ use memory::Model;
 fn are_nibbles(xs: [u8; 5]) -> bool
     ensures { result ≡ five_nibbles xs }
 {
-    (xs[0] | xs[1] | xs[2] | xs[3] | xs[4]) < 16
+    xs.iter().all(|x| *x < 16)
 }
 
 fn is_address(model: Model, address: u16) -> bool
@@ -29,118 +29,80 @@ fn can_be_open(model: Model, levels: u8) -> bool
 }
 
 // An open level holds an address, and a closed one 0.
-fn level(model: Model, k: u8, levels: u8, address: u16) -> bool
+fn level(model: Model, k: usize, levels: u8, address: u16) -> bool
     ensures { result ≡ cond (ltb k levels) (ltb address (2 ^ (chip_of model).pc_bits)) (eqb address 0) }
 {
-    if k < levels {
-        return is_address(model, address);
+    if k < levels as usize {
+        is_address(model, address)
+    } else {
+        address == 0
     }
-    address == 0
 }
 
 // The five places of the stack.
 fn stack(model: Model, c: Control) -> bool
     ensures { result ≡ every (level_in_range (chip_of model) c) places }
 {
-    let levels = c.levels;
     let held = c.stack;
-    if !level(model, 4, levels, held[4]) {
-        return false;
+    for (k, address) in held.iter().enumerate() {
+        if !level(model, k, c.levels, *address) {
+            return false;
+        }
     }
-    if !level(model, 3, levels, held[3]) {
-        return false;
-    }
-    if !level(model, 2, levels, held[2]) {
-        return false;
-    }
-    if !level(model, 1, levels, held[1]) {
-        return false;
-    }
-    level(model, 0, levels, held[0])
+    true
 }
 
+#[tactic(auto, unfolding(crate::specs::Ranges::control_in_range))]
 fn control(model: Model, c: Control) -> bool
     ensures { result ≡ control_in_range (chip_of model) c }
 {
-    if !is_address(model, c.pc) {
-        return false;
-    }
-    if !can_be_open(model, c.levels) {
-        return false;
-    }
-    stack(model, c)
+    is_address(model, c.pc) && can_be_open(model, c.levels) && stack(model, c)
 }
 
 // The skip mark is 0 or 1, and the standby mark 0, 1 or 2.
+#[tactic(auto, unfolding(crate::specs::Ranges::marks_in_range))]
 fn marks(c: Control) -> bool
     ensures { result ≡ marks_in_range c }
 {
-    if 1 < c.skip {
-        return false;
-    }
-    c.standby <= 2
+    c.skip <= 1 && c.standby <= 2
 }
 
+#[tactic(auto, unfolding(crate::specs::Ranges::machine_in_range))]
 fn machine(model: Model, m: Machine) -> bool
     ensures { result ≡ machine_in_range (chip_of model) m }
 {
-    let memory = m.memory;
-    let cells = memory.cells;
-    if !cells::in_range(model, &cells) {
-        return false;
-    }
-    let part = m.control;
-    if !control(model, part) {
-        return false;
-    }
-    if !marks(part) {
-        return false;
-    }
-    peripherals::in_range(m.peripherals)
+    cells::in_range(model, &m.memory.cells)
+        && control(model, m.control)
+        && marks(m.control)
+        && peripherals::in_range(m.peripherals)
 }
 
+#[tactic(auto, unfolding(crate::specs::Ranges::input_in_range))]
 fn input(i: Input) -> bool
     ensures { result ≡ input_in_range i }
 {
-    let pins = i.pins;
-    if !are_nibbles(pins) {
-        return false;
-    }
-    let directions = i.directions;
-    if !are_nibbles(directions) {
-        return false;
-    }
-    i.release < 2
+    are_nibbles(i.pins) && are_nibbles(i.directions) && i.release < 2
 }
 
+#[tactic(auto, unfolding(crate::specs::Ranges::rom_in_range))]
 fn rom(model: Model, words: &[u16]) -> bool
     ensures { result ≡ rom_in_range (chip_of model) words.now }
 {
-    if words.len() == 0 {
-        return false;
-    }
-    words.len() <= model.words()
+    !words.is_empty() && words.len() <= model.words()
 }
 
 // The input record, and the pulse bit beside it.
+#[tactic(auto, unfolding(crate::specs::Ranges::signals_in_range))]
 fn given(i: Input, pulse: u8) -> bool
     ensures { result ≡ signals_in_range (signals i pulse) }
 {
-    if !input(i) {
-        return false;
-    }
-    pulse < 2
+    input(i) && pulse < 2
 }
 
 // All that a step tests for refusal 1.
+#[tactic(auto, unfolding(crate::specs::Ranges::all_in_range))]
 pub fn all(model: Model, words: &[u16], m: Machine, i: Input, pulse: u8) -> bool
     ensures { result ≡ all_in_range (chip_of model) words.now m (signals i pulse) }
 {
-    if !machine(model, m) {
-        return false;
-    }
-    if !given(i, pulse) {
-        return false;
-    }
-    rom(model, words)
+    machine(model, m) && given(i, pulse) && rom(model, words)
 }

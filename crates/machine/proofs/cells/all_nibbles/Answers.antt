@@ -1,20 +1,10 @@
-use mathlib.Core.Path.{◌≡◌, ◌∙◌, ap, refl}
-use native.Mathlib.Omega.{arith}
-use Rattle.laws.specs.Every.{every}
-use Rattle.machine.specs.Ranges.{is_nibble}
-use Rattle.machine.proofs.Nibbles.{one_more}
+use Rattle.std.proofs.Common.{◌≡◌, rules, ℕ}
+use Rattle.std.specs.List.{fold}
+use lib.Bits.{bit_or}
+use Rattle.machine.proofs.Nibbles.{all_joined}
 use Rattle.machine.proofs.cells.all_nibbles.Goals as goal
-
-pub loop-i-init : goal.loop-i-init
-loop-i-init c = (refl, omega arith)
-
-pub loop-i-preserved : goal.loop-i-preserved
-loop-i-preserved c =
-    let l = c.loop-i in
-    (one_more c.args.cells.now l.i l.bits l.invariant.0, omega arith)
 
 pub returns : goal.returns
 returns c =
-    let l = c.loop-i in
-    let e : l.i ≡ 128 = omega arith in
-    l.invariant.0 ∙ ap (every (is_nibble c.args.cells.now)) e
+    let e : c.fold.result ≡ fold (λ (a : ℕ) (x : ℕ). bit_or a x) 0 c.args.cells.now = search rules in
+    rw e (all_joined c.args.cells.now 128 c.told-cells)
