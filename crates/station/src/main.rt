@@ -7,8 +7,6 @@ ghost use Rattle.station.specs.Counts.{IsPrefixLen};
 ghost use Rattle.transcript.specs.Transcript.{transcript_of};
 
 use std::io;
-use streams::Received;
-use transcript::Printed;
 
 // Puts the file's text at the front of a buffer that is never too short, and answers its length.
 #[tactic(auto, unfolding(transcript::specs::Print::print_of))]
@@ -17,10 +15,7 @@ fn put_text(file: &[u8], text: &mut [u8]) -> usize
     ensures prefix_len { IsPrefixLen result text.new }
     ensures text_after { take result text.new ≡ transcript_of file.now }
 {
-    let Printed::Text(length) = transcript::transcript(file, text) else {
-        return 0;
-    };
-    length
+    transcript::transcript(file, text).unwrap()
 }
 
 // Says how much of the text is lost. The exit status stays 0.
@@ -37,7 +32,7 @@ fn show(rt: &(impl Print + Eprint), text: &[u8]) {
 
 fn main(rt: HostRuntime) {
     let mut file = streams::file_buffer();
-    let Received::Bytes(n) = streams::read_all(&mut rt.stdin(), &mut file) else {
+    let Ok(n) = streams::read_all(&mut rt.stdin(), &mut file) else {
         let _ = eprintln!(rt; "station: standard input cannot be read");
         return;
     };
