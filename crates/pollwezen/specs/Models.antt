@@ -1,8 +1,9 @@
 -- The models by their numbers in C, and what the entries answer for each. A number that is no model's is refused with 1, ours, and
 -- what is lent stays as it came.
 -- Assumes nothing.
-use Rattle.std.specs.Prelude.{cond, List, ℕ, eqb}
+use Rattle.std.specs.Prelude.{cond, List, ℕ, eqb, Option, Some, None}
 use Rattle.memory.specs.Chip.{chip_of}
+use Rattle.memory.specs.declared.Model.{Model}
 use Rattle.memory.specs.declared.Model.TheVariants.{Upd17132, Upd17120}
 use Rattle.machine.specs.Parts.{reset_machine}
 use Rattle.machine.specs.Signals.{Signals}
@@ -13,35 +14,33 @@ use Rattle.cpu.specs.Run.{Run, ended, run_of}
 use Rattle.cpu.specs.Step.{step_of}
 use Rattle.clearance.specs.Safe.{Safe}
 use Rattle.verifier.specs.Verdict.{CheckAnswer, refused, verify_of, Clear}
-use Rattle.pollwezen.specs.declared.Selected.{Selected}
-use Rattle.pollwezen.specs.declared.Selected.TheVariants.{Model, NoModel}
 
 -- 0 is the uPD17132, 1 the uPD17120
-abbrev pub model_of : ℕ → Selected
-model_of n = cond (eqb n 0) (Model Upd17132) (cond (eqb n 1) (Model Upd17120) NoModel)
+abbrev pub model_of : ℕ → Option Model
+model_of n = cond (eqb n 0) (Some Upd17132) (cond (eqb n 1) (Some Upd17120) None)
 
 -- reset is the same on both
-abbrev pub reset_on : Selected → Machine → Step
-reset_on (Model model) m = completed_step reset_machine
-reset_on NoModel m = refused_step 1 m
+abbrev pub reset_on : Option Model → Machine → Step
+reset_on (Some model) m = completed_step reset_machine
+reset_on None m = refused_step 1 m
 
-abbrev pub step_on : Selected → List ℕ → Signals → Machine → Step
-step_on (Model model) rom signals m = step_of (chip_of model) rom signals m
-step_on NoModel rom signals m = refused_step 1 m
+abbrev pub step_on : Option Model → List ℕ → Signals → Machine → Step
+step_on (Some model) rom signals m = step_of (chip_of model) rom signals m
+step_on None rom signals m = refused_step 1 m
 
-abbrev pub run_on : Selected → List ℕ → Signals → ℕ → Machine → Run
-run_on (Model model) rom signals budget m = run_of (chip_of model) rom signals budget m
-run_on NoModel rom signals budget m = ended none 1 m
+abbrev pub run_on : Option Model → List ℕ → Signals → ℕ → Machine → Run
+run_on (Some model) rom signals budget m = run_of (chip_of model) rom signals budget m
+run_on None rom signals budget m = ended none 1 m
 
-abbrev pub verify_on : Selected → List ℕ → List ℕ → CheckAnswer
-verify_on (Model model) rom sheet = verify_of (chip_of model) rom sheet
-verify_on NoModel rom sheet = refused 1
+abbrev pub verify_on : Option Model → List ℕ → List ℕ → CheckAnswer
+verify_on (Some model) rom sheet = verify_of (chip_of model) rom sheet
+verify_on None rom sheet = refused 1
 
 -- what a pass says: on no model there is none
-abbrev pub ClearOn : Selected → List ℕ → List ℕ → Type 0
-ClearOn (Model model) rom sheet = Clear (chip_of model) rom sheet
-ClearOn NoModel rom sheet = ⊥
+abbrev pub ClearOn : Option Model → List ℕ → List ℕ → Type 0
+ClearOn (Some model) rom sheet = Clear (chip_of model) rom sheet
+ClearOn None rom sheet = ⊥
 
-abbrev pub SafeOn : Selected → List ℕ → List ℕ → Type 0
-SafeOn (Model model) rom sheet = Safe (chip_of model) rom sheet
-SafeOn NoModel rom sheet = ⊥
+abbrev pub SafeOn : Option Model → List ℕ → List ℕ → Type 0
+SafeOn (Some model) rom sheet = Safe (chip_of model) rom sheet
+SafeOn None rom sheet = ⊥

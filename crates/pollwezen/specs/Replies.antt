@@ -1,7 +1,7 @@
 -- What the entries for the check, the file and its text answer: a number, and what goes with it. Where the number is a refusal,
 -- of document 01, "Refusal numbers", the rest is 0.
 -- Assumes nothing.
-use Rattle.std.specs.Prelude.{◌≡◌, ℕ}
+use Rattle.std.specs.Prelude.{◌≡◌, ℕ, Result}
 use Rattle.machine.specs.Refusals.{number_of}
 use Rattle.machine.specs.declared.Refusal.{Refusal}
 use Rattle.station_file.specs.Answers.{file_number, read_reply, write_reply}
@@ -9,11 +9,10 @@ use Rattle.station_file.specs.Read as read
 use Rattle.station_file.specs.Write as write
 use Rattle.station_file.specs.declared.FileRefusal.{FileRefusal}
 use Rattle.station_file.specs.declared.Loaded.{Loaded}
-use Rattle.station_file.specs.declared.Written.{Written}
 use Rattle.transcript.specs.Answers.{print_reply}
 use Rattle.transcript.specs.Print as print
-use Rattle.transcript.specs.declared.Printed.{Printed}
 use Rattle.verifier.specs.Verdict.{CheckAnswer, pass, fail, refused, answer_of}
+use Rattle.verifier.specs.declared.CheckRefusal.{CheckRefusal}
 use Rattle.verifier.specs.declared.Verdict.{Verdict}
 use Rattle.pollwezen.specs.declared.OutputReply.{OutputReply}
 use Rattle.pollwezen.specs.declared.ReadReply.{ReadReply}
@@ -45,8 +44,8 @@ print_reply_of (print.refused n) = output n 0
 
 -- the replies lose nothing, and no number is a refusal of the machine and of a file both
 pub record RepliesApart : Type 0 where
-  pub checks : (a b : Verdict) → verdict_reply_of (answer_of a) ≡ verdict_reply_of (answer_of b) → a ≡ b
-  pub reads : (a b : Loaded) → read_reply_of (read_reply a) ≡ read_reply_of (read_reply b) → a ≡ b
-  pub writes : (a b : Written) → write_reply_of (write_reply a) ≡ write_reply_of (write_reply b) → a ≡ b
-  pub prints : (a b : Printed) → print_reply_of (print_reply a) ≡ print_reply_of (print_reply b) → a ≡ b
+  pub checks : (a b : Result Verdict CheckRefusal) → verdict_reply_of (answer_of a) ≡ verdict_reply_of (answer_of b) → a ≡ b
+  pub reads : (a b : Result Loaded FileRefusal) → read_reply_of (read_reply a) ≡ read_reply_of (read_reply b) → a ≡ b
+  pub writes : (a b : Result ℕ FileRefusal) → write_reply_of (write_reply a) ≡ write_reply_of (write_reply b) → a ≡ b
+  pub prints : (a b : Result ℕ FileRefusal) → print_reply_of (print_reply a) ≡ print_reply_of (print_reply b) → a ≡ b
   pub numbers : (a : Refusal) (b : FileRefusal) → number_of a ≡ file_number b → ⊥

@@ -19,12 +19,11 @@ ghost use Rattle.pollwezen.specs.Lent.{lent_run, lent_run_of, lent_step, lent_st
 ghost use Rattle.pollwezen.specs.Models.{model_of, ClearOn, SafeOn, reset_on, run_on, step_on, verify_on};
 ghost use Rattle.pollwezen.specs.Replies.{print_reply_of, read_reply_of, verdict_reply_of, write_reply_of};
 
-use calls::{reset_by_value, run_on_cells, selected, step_on_cells};
+use calls::{by_fields, by_registers, not_run, selected};
 use cpu::Count;
 use listing::{DecodedRow, EncodedRow};
-use machine::{Control, Input, Machine};
-use memory::Model;
-use peripherals::Peripherals;
+use machine::{Input, Machine, Refusal};
+use replies::unnamed;
 
 // A run's steps with their cycles, and its refusal or 0.
 #[repr(C)]
@@ -62,50 +61,15 @@ pub struct OutputReply {
     pub length: usize,
 }
 
-// The model with a number, if it is one.
-#[derive(Clone, Copy)]
-enum Selected {
-    Model(Model),
-    NoModel,
-}
-
-// What reset or a step leaves in the lent record, and its number.
-#[derive(Clone, Copy)]
-struct LentStep {
-    machine: Machine,
-    number: u8,
-}
-
-// What a run leaves in the lent record, and its reply.
-#[derive(Clone, Copy)]
-struct LentRun {
-    machine: Machine,
-    reply: RunReply,
-}
-
-// What a step leaves beside the cells, and its number.
-#[derive(Clone, Copy)]
-struct StepLeft {
-    peripherals: Peripherals,
-    control: Control,
-    number: u8,
-}
-
-// What a run leaves beside the cells, and its reply.
-#[derive(Clone, Copy)]
-struct RunLeft {
-    peripherals: Peripherals,
-    control: Control,
-    reply: RunReply,
-}
-
 // The reset record of a model, written over the lent one: 0, or 1 for a number that is no model's, and then the record stays.
 pub fn pollwezen_reset(model: u8, machine: &mut Machine) -> u8
     ensures { lent_step machine.new result ≡ lent_step_of (reset_on (model_of model) machine.old) }
 {
-    let r = reset_by_value(model, *machine);
-    *machine = r.machine;
-    r.number
+    if selected(model).is_none() {
+        return u8::from(Refusal::OutOfRange);
+    }
+    *machine = Machine::reset();
+    0
 }
 
 // One step of a model on the lent record, with the pulse bit beside its inputs: 0 for a completed step, 255 for one that stays in standby, else
@@ -114,18 +78,21 @@ pub fn pollwezen_step(model: u8, rom: &[u16], machine: &mut Machine, input: Inpu
     ensures value { lent_step machine.new result ≡ lent_step_of (step_on (model_of model) rom.now (signals input pulse) machine.old) }
     ensures kept { (result ≡ 0 → ⊥) → (result ≡ 255 → ⊥) → machine.new ≡ machine.old }
 {
-    let s = step_on_cells(
-        model,
+    let Some(known) = selected(model) else {
+        return u8::from(Refusal::OutOfRange);
+    };
+    let s = cpu::step_in_place(
+        known,
         rom,
         &mut machine.memory.cells,
         machine.peripherals,
-        machine.control,
+        by_fields(machine.control),
         input,
         pulse,
     );
-    machine.peripherals = s.peripherals;
-    machine.control = s.control;
-    s.number
+    machine.peripherals = by_registers(s.peripherals);
+    machine.control = by_fields(s.control);
+    cpu::reply_number(s.answer)
 }
 
 // The counted run of a model on the lent record.
@@ -139,19 +106,25 @@ pub fn pollwezen_run(
 ) -> RunReply
     ensures { lent_run machine.new result ≡ lent_run_of (run_on (model_of model) rom.now (signals input pulse) budget machine.old) }
 {
-    let r = run_on_cells(
-        model,
+    let Some(known) = selected(model) else {
+        return not_run();
+    };
+    let r = cpu::run_in_place(
+        known,
         rom,
         &mut machine.memory.cells,
         machine.peripherals,
-        machine.control,
+        by_fields(machine.control),
         input,
         pulse,
         budget,
     );
-    machine.peripherals = r.peripherals;
-    machine.control = r.control;
-    r.reply
+    machine.peripherals = by_registers(r.peripherals);
+    machine.control = by_fields(r.control);
+    RunReply {
+        count: r.count,
+        number: cpu::end_number(cpu::end_of(r.answer)),
+    }
 }
 
 // The check of a ROM and its sheet, two bytes a word, for a model. The last promise is demand 3 on that model, of these entries too.
@@ -160,10 +133,10 @@ pub fn pollwezen_verify(model: u8, rom: &[u16], sheet: &[u8]) -> VerdictReply
     ensures clear { (result.number ≡ 0) ↔ ClearOn (model_of model) rom.now sheet.now }
     ensures safe { result.number ≡ 0 → SafeOn (model_of model) rom.now sheet.now }
 {
-    let Selected::Model(known) = selected(model) else {
-        return replies::of_no_model();
+    let Some(known) = selected(model) else {
+        return unnamed(u8::from(Refusal::OutOfRange));
     };
-    replies::of_verdict(verifier::verify(known, rom, sheet))
+    VerdictReply::from(verifier::verify(known, rom, sheet))
 }
 
 // A word's row in the manual's list and its operands, or 3.
@@ -191,7 +164,7 @@ pub fn pollwezen_read(
     ensures buffers { buffers_of rom.new sheet.new inputs.new
         ≡ (read_of file.now (buffers_of rom.old sheet.old inputs.old)).buffers }
 {
-    replies::of_loaded(station_file::read(file, rom, sheet, inputs))
+    ReadReply::from(station_file::read(file, rom, sheet, inputs))
 }
 
 // Writes a station's file to the front of the lent buffer. A refused station writes nothing.
@@ -199,7 +172,7 @@ pub fn pollwezen_write(rom: &[u16], sheet: &[u8], inputs: &[u8], out: &mut [u8])
     ensures reply { result ≡ write_reply_of (write_of (station_of rom.now sheet.now inputs.now) out.old).reply }
     ensures written { out.new ≡ (write_of (station_of rom.now sheet.now inputs.now) out.old).out }
 {
-    replies::of_written(station_file::write(rom, sheet, inputs, out))
+    OutputReply::from(station_file::write(rom, sheet, inputs, out))
 }
 
 // Makes a sheet of single levels into one of ranges, at the front of the lent buffer. One that is too short stays as it is.
@@ -207,7 +180,7 @@ pub fn pollwezen_widen(levels: &[u8], out: &mut [u8]) -> OutputReply
     ensures reply { result ≡ write_reply_of (widen_of levels.now out.old).reply }
     ensures written { out.new ≡ (widen_of levels.now out.old).out }
 {
-    replies::of_written(station_file::widen(levels, out))
+    OutputReply::from(station_file::widen(levels, out))
 }
 
 // Puts what `station` prints for a file to the front of the lent buffer. One that is too short stays as it is; one of
@@ -217,5 +190,5 @@ pub fn pollwezen_transcript(file: &[u8], out: &mut [u8]) -> OutputReply
     ensures written { out.new ≡ (print_of file.now out.old).out }
     ensures never_longer { length (transcript_of file.now) ≤ 100000 }
 {
-    replies::of_printed(transcript::transcript(file, out))
+    OutputReply::from(transcript::transcript(file, out))
 }
