@@ -27,158 +27,172 @@ pub struct Laid {
     pub encoded: [EncodedRow; 2],
 }
 
-fn machine_with(byte: u8, word: u16) -> Machine
-    requires { (22 ≤ byte) × (9 ≤ word) }
-    ensures { result ≡ filled_machine byte word }
+// The numbers from which the fields of each width count down; the longest count takes 22 bytes, 9 words, 2 longs and 4 sizes.
+#[derive(Clone, Copy)]
+struct Most {
+    byte: u8,
+    word: u16,
+    long: u32,
+    size: usize,
+    ghost enough: { (22 ≤ byte) × (9 ≤ word) × (2 ≤ long) × (4 ≤ size) },
+}
+
+// The largest of each width, and half of them.
+const WHOLE: Most = Most {
+    byte: u8::MAX,
+    word: u16::MAX,
+    long: u32::MAX,
+    size: usize::MAX,
+};
+
+const HALF: Most = Most {
+    byte: u8::MAX / 2,
+    word: u16::MAX / 2,
+    long: u32::MAX / 2,
+    size: usize::MAX / 2,
+};
+
+fn machine_with(most: Most) -> Machine
+    ensures { result ≡ filled_machine most.byte most.word }
 {
-    let mut cells = [byte - 1; 128];
-    cells[0] = byte - 2;
-    cells[127] = byte - 3;
+    let mut cells = [most.byte - 1; 128];
+    cells[0] = most.byte - 2;
+    cells[127] = most.byte - 3;
     let registers = [
-        byte - 13,
-        byte - 14,
-        byte - 15,
-        byte - 16,
-        byte - 17,
-        byte - 18,
-        byte - 19,
+        most.byte - 13,
+        most.byte - 14,
+        most.byte - 15,
+        most.byte - 16,
+        most.byte - 17,
+        most.byte - 18,
+        most.byte - 19,
     ];
-    let stack = [word - 5, word - 6, word - 7, word - 8, word - 9];
+    let stack = [
+        most.word - 5,
+        most.word - 6,
+        most.word - 7,
+        most.word - 8,
+        most.word - 9,
+    ];
     Machine {
         memory: Memory { cells: cells },
         peripherals: Peripherals {
             registers: registers,
-            modulo: byte - 20,
-            counter: byte - 21,
-            divider: byte - 22,
+            modulo: most.byte - 20,
+            counter: most.byte - 21,
+            divider: most.byte - 22,
         },
         control: Control {
-            pc: word - 4,
+            pc: most.word - 4,
             stack: stack,
-            levels: byte - 10,
-            skip: byte - 11,
-            standby: byte - 12,
+            levels: most.byte - 10,
+            skip: most.byte - 11,
+            standby: most.byte - 12,
         },
     }
 }
 
-fn input_with(byte: u8) -> Input
-    requires { 11 ≤ byte }
-    ensures { result ≡ filled_input byte }
+fn input_with(most: Most) -> Input
+    ensures { result ≡ filled_input most.byte }
 {
-    let pins = [byte - 1, byte - 2, byte - 3, byte - 4, byte - 5];
-    let directions = [byte - 6, byte - 7, byte - 8, byte - 9, byte - 10];
+    let pins = [
+        most.byte - 1,
+        most.byte - 2,
+        most.byte - 3,
+        most.byte - 4,
+        most.byte - 5,
+    ];
+    let directions = [
+        most.byte - 6,
+        most.byte - 7,
+        most.byte - 8,
+        most.byte - 9,
+        most.byte - 10,
+    ];
     Input {
         pins: pins,
         directions: directions,
-        release: byte - 11,
+        release: most.byte - 11,
     }
 }
 
-fn run_reply_with(byte: u8, long: u32) -> RunReply
-    requires { (3 ≤ byte) × (2 ≤ long) }
-    ensures { result ≡ filled_run_reply byte long }
+fn run_reply_with(most: Most) -> RunReply
+    ensures { result ≡ filled_run_reply most.byte most.long }
 {
     RunReply {
         count: Count {
-            steps: long - 1,
-            cycles: long - 2,
+            steps: most.long - 1,
+            cycles: most.long - 2,
         },
-        number: byte - 3,
+        number: most.byte - 3,
     }
 }
 
-fn verdict_reply_with(byte: u8, word: u16) -> VerdictReply
-    requires { (3 ≤ byte) × (2 ≤ word) }
-    ensures { result ≡ filled_verdict_reply byte word }
+fn verdict_reply_with(most: Most) -> VerdictReply
+    ensures { result ≡ filled_verdict_reply most.byte most.word }
 {
     VerdictReply {
-        number: byte - 1,
-        word: word - 2,
-        rule: byte - 3,
+        number: most.byte - 1,
+        word: most.word - 2,
+        rule: most.byte - 3,
     }
 }
 
-fn read_reply_with(byte: u8, size: usize) -> ReadReply
-    requires { (1 ≤ byte) × (4 ≤ size) }
-    ensures { result ≡ filled_read_reply byte size }
+fn read_reply_with(most: Most) -> ReadReply
+    ensures { result ≡ filled_read_reply most.byte most.size }
 {
     ReadReply {
-        number: byte - 1,
-        words: size - 2,
-        entries: size - 3,
-        records: size - 4,
+        number: most.byte - 1,
+        words: most.size - 2,
+        entries: most.size - 3,
+        records: most.size - 4,
     }
 }
 
-fn output_reply_with(byte: u8, size: usize) -> OutputReply
-    requires { (1 ≤ byte) × (2 ≤ size) }
-    ensures { result ≡ filled_output_reply byte size }
+fn output_reply_with(most: Most) -> OutputReply
+    ensures { result ≡ filled_output_reply most.byte most.size }
 {
     OutputReply {
-        number: byte - 1,
-        length: size - 2,
+        number: most.byte - 1,
+        length: most.size - 2,
     }
 }
 
-fn decoded_row_with(byte: u8, word: u16) -> DecodedRow
-    requires { (4 ≤ byte) × (5 ≤ word) }
-    ensures { result ≡ filled_decoded_row byte word }
+fn decoded_row_with(most: Most) -> DecodedRow
+    ensures { result ≡ filled_decoded_row most.byte most.word }
 {
     DecodedRow {
-        number: byte - 1,
-        row: byte - 2,
-        first: byte - 3,
-        second: byte - 4,
-        addr: word - 5,
+        number: most.byte - 1,
+        row: most.byte - 2,
+        first: most.byte - 3,
+        second: most.byte - 4,
+        addr: most.word - 5,
     }
 }
 
-fn encoded_row_with(byte: u8, word: u16) -> EncodedRow
-    requires { (1 ≤ byte) × (2 ≤ word) }
-    ensures { result ≡ filled_encoded_row byte word }
+fn encoded_row_with(most: Most) -> EncodedRow
+    ensures { result ≡ filled_encoded_row most.byte most.word }
 {
     EncodedRow {
-        number: byte - 1,
-        word: word - 2,
+        number: most.byte - 1,
+        word: most.word - 2,
     }
 }
 
-// In the first of each two the fields count down from the largest number of their width, in the second from half of it.
-fn all() -> Laid
-    ensures { result ≡ laid_of }
-{
-    let size: usize = 18446744073709551615;
-    let half: usize = 9223372036854775807;
-    let machines = [machine_with(255, 65535), machine_with(127, 32767)];
-    let inputs = [input_with(255), input_with(127)];
-    let runs = [
-        run_reply_with(255, 4294967295),
-        run_reply_with(127, 2147483647),
-    ];
-    let verdicts = [
-        verdict_reply_with(255, 65535),
-        verdict_reply_with(127, 32767),
-    ];
-    let reads = [read_reply_with(255, size), read_reply_with(127, half)];
-    let outputs = [output_reply_with(255, size), output_reply_with(127, half)];
-    let decoded = [decoded_row_with(255, 65535), decoded_row_with(127, 32767)];
-    let encoded = [encoded_row_with(255, 65535), encoded_row_with(127, 32767)];
-    Laid {
-        machines: machines,
-        inputs: inputs,
-        runs: runs,
-        verdicts: verdicts,
-        reads: reads,
-        outputs: outputs,
-        decoded: decoded,
-        encoded: encoded,
-    }
-}
-
-// Fills the lent structs.
+// Fills the lent structs: in the first of each two the fields count down from the largest number of their width, in the second from
+// half of it.
+#[tactic(auto, unfolding(crate::specs::Laid::laid_of))]
 pub fn layout_fill(lent: &mut Laid)
     ensures { lent.new ≡ laid_of }
 {
-    *lent = all();
+    *lent = Laid {
+        machines: [machine_with(WHOLE), machine_with(HALF)],
+        inputs: [input_with(WHOLE), input_with(HALF)],
+        runs: [run_reply_with(WHOLE), run_reply_with(HALF)],
+        verdicts: [verdict_reply_with(WHOLE), verdict_reply_with(HALF)],
+        reads: [read_reply_with(WHOLE), read_reply_with(HALF)],
+        outputs: [output_reply_with(WHOLE), output_reply_with(HALF)],
+        decoded: [decoded_row_with(WHOLE), decoded_row_with(HALF)],
+        encoded: [encoded_row_with(WHOLE), encoded_row_with(HALF)],
+    };
 }
