@@ -6,3 +6,4 @@ pub mod Answers
 pub mod Put
 pub mod Why
 pub mod Finding
+pub mod Stations

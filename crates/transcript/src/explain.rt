@@ -1,19 +1,16 @@
 // The last record whose step wrote a cell: document 02, E7.
-ghost use Rattle.std.specs.Prelude.{◌≡◌, not, ◌&&◌, ◌*◌, ◌<◌, ◌≤◌, eqb, get_or, length};
-ghost use Rattle.isa.specs.Decode.{decode_of};
-ghost use Rattle.machine.specs.Parts.{cells_of, is_marked};
-ghost use Rattle.machine.specs.Signals.{signals};
+ghost use Rattle.std.specs.Prelude.{◌≡◌, ◌*◌, ◌<◌, ◌≤◌, length};
 ghost use Rattle.transcript.specs.Answers.{printed_by};
-ghost use Rattle.transcript.specs.Finding.{found_text, told_text};
+ghost use Rattle.transcript.specs.Finding.{found_text, told_by, told_text, wrote_by};
 ghost use Rattle.transcript.specs.Printing.{Wrote};
 ghost use Rattle.transcript.specs.Put.{put_of};
-ghost use Rattle.transcript.specs.Why.{after_number, answer_text, last_writer, why_of, written_by, written_line};
+ghost use Rattle.transcript.specs.Why.{after_number, answer_text, last_writer, why_of, written_line};
 
 use crate::inputs::input_of;
 use crate::line::put_bad_file;
 use crate::put::put_whole;
-use crate::steps::{begun, put_record, word_at};
-use crate::{Progress, Sink, WhyRefusal, Writer};
+use crate::steps::{begun, word_at};
+use crate::{Progress, Sink, Station, WhyRefusal, Writer};
 use machine::Input;
 use memory::Model;
 use operations::Ports;
@@ -32,7 +29,7 @@ struct Turn<'a> {
 impl Turn<'_> {
     // Whether its step wrote the cell: it was completed, its word not skipped, and its instruction writes there.
     fn wrote(&self, cell: u8) -> bool
-        ensures { result ≡ (not (eqb self.now.after.count.steps self.now.before.count.steps) && (not (is_marked self.now.before.machine.control.skip) && written_by self.now.rom.now (signals self.now.input 0) self.now.before.machine cell (decode_of (get_or self.now.rom.now self.now.before.machine.control.pc 0)))) }
+        ensures { result ≡ wrote_by self.now cell }
     {
         let before = self.before.machine;
         let control = before.control;
@@ -62,7 +59,7 @@ impl Turn<'_> {
     // What is told of its step.
     fn writer(&self, cell: u8) -> Writer
         requires { cell < 128 }
-        ensures { result ≡ record { number = self.now.number; pc = self.now.before.machine.control.pc; word = get_or self.now.rom.now self.now.before.machine.control.pc 0; nibble = get_or (cells_of self.now.after.machine) cell 0 } }
+        ensures { result ≡ told_by self.now cell }
     {
         let before = self.before.machine;
         let after = self.after.machine;
@@ -77,32 +74,34 @@ impl Turn<'_> {
     }
 }
 
-// The last of so many records. They are run by the function that prints them, into a buffer that takes nothing.
-fn last_writer(rom: &[u16], inputs: &[u8], count: usize, cell: u8) -> Option<Writer>
-    requires { (11 * count ≤ length inputs.now) × (length inputs.now ≤ 45045) × (cell < 128) }
-    ensures { found_text result ≡ answer_text rom.now inputs.now cell (last_writer rom.now inputs.now cell count) }
-{
-    let mut found = None;
-    let mut before = begun();
-    let mut nowhere = Sink::new(&mut []);
-    let (records, _) = inputs.as_chunks::<11>();
-    for (k, record) in records[..count].iter().enumerate() {
-        let number = k as u16 + 1;
-        let input = input_of(record);
-        let after = put_record(rom, number, input, before, &mut nowhere);
-        let turn = Turn {
-            rom,
-            number,
-            input,
-            before,
-            after,
-        };
-        if turn.wrote(cell) {
-            found = Some(turn.writer(cell));
+impl Station<'_> {
+    // The last of so many records. They are run by the function that prints them, into a buffer that takes nothing.
+    fn last_writer(&self, count: usize, cell: u8) -> Option<Writer>
+        requires { (11 * count ≤ length self.now.inputs.now) × (cell < 128) }
+        ensures { found_text result ≡ answer_text self.now.rom.now self.now.inputs.now cell (last_writer self.now.rom.now self.now.inputs.now cell count) }
+    {
+        let mut found = None;
+        let mut before = begun();
+        let mut nowhere = Sink::new(&mut []);
+        let (records, _) = self.inputs.as_chunks::<11>();
+        for (k, record) in records[..count].iter().enumerate() {
+            let number = k as u16 + 1;
+            let input = input_of(record);
+            let after = self.put_record(number, input, before, &mut nowhere);
+            let turn = Turn {
+                rom: self.rom,
+                number,
+                input,
+                before,
+                after,
+            };
+            if turn.wrote(cell) {
+                found = Some(turn.writer(cell));
+            }
+            before = after;
         }
-        before = after;
+        found
     }
-    found
 }
 
 // PC, word and nibble, as they follow the number.
@@ -136,12 +135,12 @@ fn explained(request: &[u8]) -> Result<Option<Writer>, WhyRefusal>
     if loaded.records < count {
         return Err(WhyRefusal::Count);
     }
-    Ok(last_writer(
-        &rom[..loaded.words],
-        &inputs[..11 * loaded.records],
-        count,
-        cell,
-    ))
+    let station = Station {
+        rom: &rom[..loaded.words],
+        sheet: &sheet[..2 * loaded.entries],
+        inputs: &inputs[..11 * loaded.records],
+    };
+    Ok(station.last_writer(count, cell))
 }
 
 // The line of the step that was found.

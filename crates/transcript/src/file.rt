@@ -5,10 +5,9 @@ ghost use Rattle.transcript.specs.Printing.{Wrote};
 ghost use Rattle.transcript.specs.Print.{print_of};
 ghost use Rattle.transcript.specs.Transcript.{transcript_of};
 
-use crate::Sink;
 use crate::line::put_bad_file;
 use crate::put::put_whole;
-use crate::whole::put_station;
+use crate::{Sink, Station};
 use station_file::FileRefusal;
 
 // The whole text of a file.
@@ -19,12 +18,14 @@ fn put_file(file: &[u8], sink: &mut Sink)
     let mut sheet = [0u8; 2048];
     let mut inputs = [0u8; 45045];
     match station_file::read(file, &mut rom, &mut sheet, &mut inputs) {
-        Ok(loaded) => put_station(
-            &rom[..loaded.words],
-            &sheet[..2 * loaded.entries],
-            &inputs[..11 * loaded.records],
-            sink,
-        ),
+        Ok(loaded) => {
+            let station = Station {
+                rom: &rom[..loaded.words],
+                sheet: &sheet[..2 * loaded.entries],
+                inputs: &inputs[..11 * loaded.records],
+            };
+            station.put_text(sink);
+        }
         Err(refusal) => put_bad_file(sink, u8::from(refusal)),
     }
 }

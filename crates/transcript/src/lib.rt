@@ -2,7 +2,7 @@
 
 #![tactic(auto)]
 
-ghost use Rattle.std.specs.Prelude.{◌≡◌};
+ghost use Rattle.std.specs.Prelude.{◌≡◌, ◌≤◌, length};
 ghost use Rattle.transcript.specs.Finding.{why_number};
 ghost use Rattle.transcript.specs.declared.WhyRefusal.TheVariants.{File};
 
@@ -26,6 +26,15 @@ use station_file::FileRefusal;
 struct Sink<'a> {
     out: &'a mut [u8],
     at: usize,
+}
+
+// A station: its words, its sheet with two bytes an entry, and its input records, of which it has 4,095 at most.
+#[derive(Clone, Copy)]
+struct Station<'a> {
+    rom: &'a [u16],
+    sheet: &'a [u8],
+    inputs: &'a [u8],
+    ghost few: { length inputs.now ≤ 45045 },
 }
 
 // A step that wrote the cell: the record's number, the PC and the word before it, and the nibble after it.

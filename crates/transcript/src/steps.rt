@@ -7,7 +7,7 @@ ghost use Rattle.transcript.specs.Printing.{Recorded, RecordedTo};
 
 use crate::inputs::input_of;
 use crate::line::put_line;
-use crate::{Progress, Sink};
+use crate::{Progress, Sink, Station};
 use cpu::{Completion, Count};
 use machine::{Input, Machine};
 use memory::Model;
@@ -47,54 +47,55 @@ pub(crate) fn begun() -> Progress
     }
 }
 
-// One record. A refusal prints no line, and after one nothing changes.
-pub(crate) fn put_record(
-    rom: &[u16],
-    number: u16,
-    input: Input,
-    progress: Progress,
-    sink: &mut Sink,
-) -> Progress
-    requires steps_bound { progress.count.steps ≤ 60000 }
-    requires cycles_bound { progress.count.cycles ≤ 120000 }
-    ensures { Recorded rom.now number input progress sink.old sink.new result }
-{
-    if progress.refusal.is_some() {
-        return progress;
-    }
-    let before = progress.machine;
-    let control = before.control;
-    let pc = control.pc;
-    let stepped = cpu::step(Model::Upd17132, rom, before, input, 0);
-    let machine = stepped.machine;
-    let count = total(progress.count, stepped.count);
-    let refusal = match stepped.answer {
-        Ok(Completion::Done) => {
-            put_line(sink, number, pc, text::hex4(word_at(rom, pc)), machine);
-            None
+impl Station<'_> {
+    // One record. A refusal prints no line, and after one nothing changes.
+    pub(crate) fn put_record(
+        &self,
+        number: u16,
+        input: Input,
+        progress: Progress,
+        sink: &mut Sink,
+    ) -> Progress
+        requires steps_bound { progress.count.steps ≤ 60000 }
+        requires cycles_bound { progress.count.cycles ≤ 120000 }
+        ensures { Recorded self.now.rom.now number input progress sink.old sink.new result }
+    {
+        if progress.refusal.is_some() {
+            return progress;
         }
-        Ok(Completion::Standby) => {
-            put_line(sink, number, pc, *b"----", machine);
-            None
+        let before = progress.machine;
+        let control = before.control;
+        let pc = control.pc;
+        let stepped = cpu::step(Model::Upd17132, self.rom, before, input, 0);
+        let machine = stepped.machine;
+        let count = total(progress.count, stepped.count);
+        let refusal = match stepped.answer {
+            Ok(Completion::Done) => {
+                put_line(sink, number, pc, text::hex4(word_at(self.rom, pc)), machine);
+                None
+            }
+            Ok(Completion::Standby) => {
+                put_line(sink, number, pc, *b"----", machine);
+                None
+            }
+            Err(refusal) => Some(refusal),
+        };
+        Progress {
+            machine,
+            count,
+            refusal,
         }
-        Err(refusal) => Some(refusal),
-    };
-    Progress {
-        machine,
-        count,
-        refusal,
     }
-}
 
-// The records in turn, numbered from 1.
-pub(crate) fn put_records(rom: &[u16], inputs: &[u8], sink: &mut Sink) -> Progress
-    requires { length inputs.now ≤ 45045 }
-    ensures { RecordedTo rom.now inputs.now (length inputs.now / record_bytes) sink.old sink.new result }
-{
-    let mut progress = begun();
-    let (records, _) = inputs.as_chunks::<11>();
-    for (k, record) in records.iter().enumerate() {
-        progress = put_record(rom, k as u16 + 1, input_of(record), progress, sink);
+    // The records in turn, numbered from 1.
+    pub(crate) fn put_records(&self, sink: &mut Sink) -> Progress
+        ensures { RecordedTo self.now.rom.now self.now.inputs.now (length self.now.inputs.now / record_bytes) sink.old sink.new result }
+    {
+        let mut progress = begun();
+        let (records, _) = self.inputs.as_chunks::<11>();
+        for (k, record) in records.iter().enumerate() {
+            progress = self.put_record(k as u16 + 1, input_of(record), progress, sink);
+        }
+        progress
     }
-    progress
 }

@@ -24,8 +24,17 @@ returns-then-cell-gt127 c =
 pub slice_bounds-rom-end : goal.slice_bounds-rom-end
 slice_bounds-rom-end c = let l = loads _ _ _ _ _ c.in_ok-loaded.ensures in l.rom
 
-pub slice_bounds-last_writer-end : goal.slice_bounds-last_writer-end
-slice_bounds-last_writer-end c = let l = loads _ _ _ _ _ c.in_ok-loaded.ensures in sym (length-take-le _ _ l.rom)
+pub slice_bounds-station-end : goal.slice_bounds-station-end
+slice_bounds-station-end c = let l = loads _ _ _ _ _ c.in_ok-loaded.ensures in sym (length-take-le _ _ l.rom)
+
+pub overflow_mul-sheet : goal.overflow_mul-sheet
+overflow_mul-sheet c = let l = loads _ _ _ _ _ c.in_ok-loaded.ensures in omega (arith, l.even)
+
+pub slice_bounds-sheet-end : goal.slice_bounds-sheet-end
+slice_bounds-sheet-end c = let l = loads _ _ _ _ _ c.in_ok-loaded.ensures in l.sheet
+
+pub slice_bounds-station-end-2 : goal.slice_bounds-station-end-2
+slice_bounds-station-end-2 c = let l = loads _ _ _ _ _ c.in_ok-loaded.ensures in sym (length-take-le _ _ l.sheet)
 
 pub overflow_mul-inputs : goal.overflow_mul-inputs
 overflow_mul-inputs c = let l = loads _ _ _ _ _ c.in_ok-loaded.ensures in omega (arith, l.few)
@@ -33,8 +42,8 @@ overflow_mul-inputs c = let l = loads _ _ _ _ _ c.in_ok-loaded.ensures in omega 
 pub slice_bounds-inputs-end : goal.slice_bounds-inputs-end
 slice_bounds-inputs-end c = let l = loads _ _ _ _ _ c.in_ok-loaded.ensures in l.inputs
 
-pub slice_bounds-last_writer-end-2 : goal.slice_bounds-last_writer-end-2
-slice_bounds-last_writer-end-2 c = let l = loads _ _ _ _ _ c.in_ok-loaded.ensures in sym (length-take-le _ _ l.inputs)
+pub slice_bounds-station-end-3 : goal.slice_bounds-station-end-3
+slice_bounds-station-end-3 c = let l = loads _ _ _ _ _ c.in_ok-loaded.ensures in sym (length-take-le _ _ l.inputs)
 
 pub returns-then-loaded-count : goal.returns-then-loaded-count
 returns-then-loaded-count c =
@@ -46,7 +55,7 @@ pub last_writer-requires : goal.last_writer-requires
 last_writer-requires c =
     let l = loads _ _ _ _ _ c.in_ok-loaded.ensures in
     let k = length-take-le _ _ l.inputs in
-    (omega (arith, k, c.if-loaded-count.false), omega (arith, k, l.few), omega (arith, c.if-cell-gt127.false))
+    (omega (arith, k, c.if-loaded-count.false), omega (arith, c.if-cell-gt127.false))
 
 pub returns : goal.returns
 returns c =
