@@ -16,7 +16,8 @@ pub use others::{rorc, skip, transfer};
 pub use written::writes;
 
 // What an instruction reads besides the cells: the pins of the ports, and the control registers, which give the ports' directions and are
-// what PEEK reads below 40H.
+// what PEEK reads below 40H. The cells are no field, since most operations write them; nor is the model, which goes with the cells, here and
+// in `memory`.
 #[derive(Clone, Copy)]
 pub struct Ports<'a> {
     pub pins: &'a [u8; 5],
