@@ -16,7 +16,7 @@ use Rattle.station_file.specs.Parts.{Sound}
 use Rattle.station_file.specs.Station.{Form, form1, form2, Station, most_level, entry_byte}
 use Rattle.station_file.specs.Write.{every_at}
 use Rattle.station_file.proofs.EntryBytes.{lower}
-use Rattle.station_file.proofs.Halves.{length_doubled}
+use Rattle.station_file.proofs.Packing.{length_doubled}
 use Rattle.station_file.proofs.Packing.{length_lowest, slice_index_lowest, slice_index_doubled}
 use Rattle.station_file.proofs.Soundness.{length_of, sheet_entries}
 

@@ -9,7 +9,6 @@ pub mod Scanned
 pub mod Local
 pub mod EntryBytes
 pub mod InputBytes
-pub mod Halves
 pub mod Soundness
 pub mod Parts
 pub mod Packing

@@ -15,7 +15,6 @@ use Rattle.station_file.specs.Forms.{doubled, lowest_of, all_equal, entries_of}
 use Rattle.station_file.specs.Places.{form_of}
 use Rattle.station_file.specs.declared.forms.Form.{Form}
 use Rattle.station_file.specs.declared.forms.Form.TheVariants.{One, Two}
-use Rattle.station_file.proofs.Halves.{length_doubled}
 
 -- the lowest levels
 pub length_lowest : (s : List ℕ) → length (lowest_of s) ≡ length s / 2
@@ -33,6 +32,10 @@ slice_index_lowest (l ∷ h ∷ s) zero p = refl
 slice_index_lowest (l ∷ h ∷ s) (suc i) p = rw (twice_suc i) (slice_index_lowest s i (omega arith))
 
 -- each byte twice
+pub length_doubled : (xs : List ℕ) → length (doubled xs) ≡ 2 * length xs
+length_doubled [] = refl
+length_doubled (x ∷ xs) = omega (arith, length_doubled xs)
+
 pub slice_index_doubled : (p : List ℕ) (i : ℕ) → (get_or (doubled p) (2 * i) 0 ≡ get_or p i 0) × (get_or (doubled p) (suc (2 * i)) 0 ≡ get_or p i 0)
 slice_index_doubled [] i = (refl, refl)
 slice_index_doubled (b ∷ p) zero = (refl, refl)

@@ -2,14 +2,15 @@
 -- Assumes nothing.
 use mathlib.Core.Path.{◌≡◌, ◌∙◌, refl, sym, ap}
 use mathlib.Core.Bool.{Bool, true, false, cond}
-use mathlib.Core.List.{List}
+use mathlib.Core.List.{List, [], ◌∷◌}
 use Prim.Native.Nat.{ℕ, ◌*◌, ◌≤◌}
+use native.Mathlib.Omega.{arith}
 use borrow.Author.Tests.{leb-true, leb-false}
 use lib.Dec.{leb}
 use lib.ListN.{length, take, drop, take-append-drop}
 use Rattle.station_file.specs.Reading.{Reading, got, refused, and_then, tested, number, fields}
 use Rattle.station_file.specs.Station as station
-use Rattle.station_file.specs.Station.{word_field, rom_count, sheet_count, entry_byte, entry_field, input_byte, input_field, rom_section, sheet_section, input_section}
+use Rattle.station_file.specs.Station.{Station, ended, word_field, rom_count, sheet_count, entry_byte, entry_field, input_byte, input_field, rom_section, sheet_section, input_section}
 use Rattle.station_file.specs.Write.{every_at}
 use Rattle.station_file.specs.Places.{words_of, form_of, read_as, bytes_of_section, section_of}
 use Rattle.station_file.specs.declared.FileRefusal.{FileRefusal}
@@ -95,3 +96,12 @@ pub words_read : (r : Result (Bor (List ℕ) × Bor (List ℕ)) FileRefusal) (xs
     → read_as (λ b. b.now) r ≡ section_of rom_count (λ (bytes : List ℕ). true) 2 xs → read_as (λ b. words_of b.now) r ≡ rom_section xs
 words_read (Ok p) xs h = sym (rom_is xs ∙ rw (← h) refl)
 words_read (Err f) xs h = sym (rom_is xs ∙ rw (← h) refl)
+
+-- the end of a file
+pub ends : (s : Station) (rest : List ℕ) → length rest ≡ 0 → got s [] ≡ ended s rest
+ends s [] h = refl
+ends s (b ∷ rest) h = absurd (omega arith)
+
+pub goes_on : (s : Station) (rest : List ℕ) → (length rest ≡ 0 → ⊥) → refused 24 ≡ ended s rest
+goes_on s [] h = absurd (h refl)
+goes_on s (b ∷ rest) h = refl

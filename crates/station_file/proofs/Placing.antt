@@ -5,7 +5,8 @@ use mathlib.Core.List.{List, [], ◌++◌}
 use Prim.Native.Nat.{ℕ, ◌*◌, ◌/◌, ◌<◌, ◌≤◌}
 use native.Mathlib.Nat.{div-one}
 use native.Mathlib.Omega.{arith}
-use lib.ListN.{length, drop}
+use lib.ListN.{length, take, drop}
+use lib.Seq.{length-take-le}
 use borrow.Author.Tests.{le-leb, lt-leb}
 use Rattle.std.specs.Prelude.{Ok, Err}
 use Rattle.station_file.specs.Reading.{got, refused}
@@ -20,7 +21,7 @@ use Rattle.station_file.specs.declared.FileRefusal.{FileRefusal}
 use Rattle.station_file.specs.declared.FileRefusal.TheVariants.{Room}
 use Rattle.station_file.specs.declared.forms.Form.{Form}
 use Rattle.station_file.specs.declared.forms.Form.TheVariants.{One, Two}
-use Rattle.station_file.proofs.Halves.{length_doubled}
+use Rattle.station_file.proofs.Packing.{length_doubled}
 use Rattle.station_file.proofs.InForms.{read_sound}
 use Rattle.station_file.proofs.Soundness.{sheet_entries}
 use Rattle.station_file.proofs.WordLists.{length_words}
@@ -58,8 +59,13 @@ module _ (form : Form) (file : List ℕ) (q : form_of form ≡ form_for file) wh
     rom_full r s i x = rw (lem, length_words (length rom / 2) rom, lt-leb (length rom / 2) (length r) x) refl
 
     module _ (w : ℕ) (k : w ≡ (form_of form).entry_bytes) (r s i : List ℕ) where
-      pub sheet_size : length ranges ≡ 2 * (length sheet / w)
+      sheet_size : length ranges ≡ 2 * (length sheet / w)
       sheet_size = length_ranges ∙ ap (λ (n : ℕ). 2 * (length sheet / n)) (sym k)
+
+      -- the part of the buffer for its entries has room for them
+      pub entries_room : length sheet / w ≤ length s / 2 → length (take (2 * (length sheet / w)) s) ≡ length ranges
+      entries_room y =
+          let room : 2 * (length sheet / w) ≤ length s = omega arith in length-take-le (2 * (length sheet / w)) s room ∙ sym sheet_size
 
       pub sheet_full : length rom / 2 ≤ length r → length s / 2 < length sheet / w → full r s i
       unfolding read_of

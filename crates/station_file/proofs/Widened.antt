@@ -11,7 +11,7 @@ use Rattle.station_file.specs.Answers.{written_by}
 use Rattle.station_file.specs.Forms.{doubled}
 use Rattle.station_file.specs.Write.{widen_of}
 use Rattle.station_file.specs.declared.FileRefusal.TheVariants.{Room}
-use Rattle.station_file.proofs.Halves.{length_doubled}
+use Rattle.station_file.proofs.Packing.{length_doubled}
 
 module _ (levels out : List ℕ) where
   pub too_short : length out / 2 < length levels → written_by (Err Room) out ≡ widen_of levels out

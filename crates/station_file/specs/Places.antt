@@ -2,6 +2,7 @@
 -- Assumes nothing.
 use Rattle.std.specs.Prelude.{◌≡◌, Bool, ◌&&◌, cond, List, [], ◌∷◌, ◌++◌, ℕ, zero, suc, ◌+◌, ◌*◌, ◌/◌, leb, length, take, drop, get_or, Result, Ok, Err}
 use Rattle.std.specs.Borrow.{Bor}
+use Rattle.std.specs.Fn.{AnyResult, Shared}
 use Rattle.sheet.specs.Entry.{single, proper}
 use Rattle.station_file.specs.Reading.{Reading, got, refused, and_then, tested, byte, number}
 use Rattle.station_file.specs.Station.{Station, form1, form2, most_level}
@@ -33,9 +34,21 @@ abbrev pub station_in : Result Sections FileRefusal → Reading Station
 station_in (Ok s) = got (record { rom = words_of s.rom.now; sheet = s.sheet.now; inputs = s.inputs.now }) []
 station_in (Err f) = refused (file_number f)
 
+-- what comes of a station where nothing is left of its file
+abbrev pub ended_as : {A : Type 0} → Station → Result A FileRefusal → Reading Station
+ended_as s (Ok a) = got s []
+ended_as s (Err f) = refused (file_number f)
+
 -- so many bytes that pass a test. Those that the file has are tested before its end
 abbrev pub bytes_of_section : (List ℕ → Bool) → ℕ → List ℕ → Reading (List ℕ)
 bytes_of_section test n xs = cond (test (take n xs)) (cond (leb n (length xs)) (got (take n xs) (drop n xs)) (refused 21)) (refused 23)
+
+-- a closure answers as a test does, of a number and of bytes
+abbrev pub IsTest : {F : Type 0} → Shared F (ℕ × Unit {0}) Bool → F → (ℕ → Bool) → Type 0
+IsTest g f test = (n : ℕ) → AnyResult g f (n, tt) (λ b. b ≡ test n)
+
+abbrev pub IsTestOfBytes : {F : Type 0} → Shared F (Bor (List ℕ) × Unit {0}) Bool → F → (List ℕ → Bool) → Type 0
+IsTestOfBytes g f test = (bytes : Bor (List ℕ)) → AnyResult g f (bytes, tt) (λ b. b ≡ test bytes.now)
 
 -- a section of elements of so many bytes, after its count
 abbrev pub section_of : (ℕ → Bool) → (List ℕ → Bool) → ℕ → List ℕ → Reading (List ℕ)

@@ -49,6 +49,7 @@ pub(crate) fn put_lowest(sheet: &[u8], out: &mut [u8])
 }
 
 // Makes a sheet of single levels into one of ranges, at the front of the lent buffer. A buffer that is too short stays as it is.
+#[tactic(auto, using(crate::proofs::Widened::too_short, crate::proofs::Widened::widens))]
 pub fn widen(levels: &[u8], out: &mut [u8]) -> Result<usize, FileRefusal>
     ensures { written_by result out.new ≡ widen_of levels.now out.old }
 {

@@ -11,7 +11,7 @@ use crate::sections::parse;
 use crate::{FileRefusal, Loaded};
 
 // The entries of a file, with two bytes each.
-#[tactic(auto, using(crate::proofs::Halves::length_doubled))]
+#[tactic(auto, using(crate::proofs::Packing::length_doubled))]
 fn read_entries(bytes: &[u8], form: Form, sheet: &mut [u8])
     requires { length sheet.old ≡ length (ranges_of (form_of form) bytes.now) }
     ensures { sheet.new ≡ ranges_of (form_of form) bytes.now }
@@ -23,7 +23,7 @@ fn read_entries(bytes: &[u8], form: Form, sheet: &mut [u8])
 }
 
 // Reads a file into the lent buffers, with two bytes to a sheet entry. A refused file writes nothing.
-#[tactic(auto, using(crate::proofs::Placing::refuses, crate::proofs::Placing::rom_full, crate::proofs::Placing::sheet_full, crate::proofs::Placing::inputs_full, crate::proofs::Placing::fills))]
+#[tactic(auto, using(crate::proofs::Placing::refuses, crate::proofs::Placing::rom_full, crate::proofs::Placing::sheet_full, crate::proofs::Placing::inputs_full, crate::proofs::Placing::entries_room, crate::proofs::Placing::fills))]
 pub fn read(
     file: &[u8],
     rom: &mut [u16],

@@ -1,8 +1,7 @@
 // The file's sections, in their order. Nothing is written here.
 ghost use Rattle.std.specs.Prelude.{◌≡◌, ℕ, Bool, List, ◌≤◌};
-ghost use Rattle.std.specs.Fn.{AnyResult};
-ghost use Rattle.station_file.specs.Station.{rom_section, sheet_section, input_section, parse_of};
-ghost use Rattle.station_file.specs.Places.{words_of, form_of, read_as, section_of, station_in};
+ghost use Rattle.station_file.specs.Station.{rom_section, sheet_section, input_section, ended, parse_of};
+ghost use Rattle.station_file.specs.Places.{words_of, form_of, read_as, IsTest, IsTestOfBytes, section_of, ended_as, station_in};
 
 use crate::forms::Form;
 use crate::limits::{MOST_INPUTS, rom_count, sheet_count};
@@ -28,7 +27,7 @@ fn section<'a, C: Fn(usize) -> bool, P: Fn(&[u8]) -> bool>(
     requires width { width ≤ 11 }
     requires count { C.IsAlwaysCallable allowed }
     requires bytes { P.IsAlwaysCallable proper }
-    ensures { (count : ℕ → Bool) (test : List ℕ → Bool) → ((n : ℕ) → AnyResult C.Fn allowed (n, tt) (λ r. r ≡ count n)) → ((p : _) → AnyResult P.Fn proper (p, tt) (λ r. r ≡ test p.now)) → read_as (λ b. b.now) result ≡ section_of count test width file.now }
+    ensures { (count : ℕ → Bool) (test : List ℕ → Bool) → IsTest C.Fn allowed count → IsTestOfBytes P.Fn proper test → read_as (λ bytes. bytes.now) result ≡ section_of count test width file.now }
 {
     let (count, rest) = read_number(file)?;
     let count = usize::from(count);
@@ -68,6 +67,17 @@ fn input_section(file: &[u8]) -> Result<(&[u8], &[u8]), FileRefusal>
     section(file, 11, |count| count <= MOST_INPUTS, scan::inputs)
 }
 
+// Nothing comes after the last section.
+#[tactic(auto, using(crate::proofs::Parsing::ends, crate::proofs::Parsing::goes_on))]
+fn ended(rest: &[u8]) -> Result<(), FileRefusal>
+    ensures { (station : _) → ended_as station result ≡ ended station rest.now }
+{
+    if !rest.is_empty() {
+        return Err(FileRefusal::After);
+    }
+    Ok(())
+}
+
 // The sections of a file, or its first refusal.
 #[tactic(auto, using(crate::proofs::WordLists::length_words), unfolding(crate::specs::Station::parse_of))]
 pub(crate) fn parse(file: &[u8], form: Form) -> Result<Sections<'_>, FileRefusal>
@@ -80,8 +90,6 @@ pub(crate) fn parse(file: &[u8], form: Form) -> Result<Sections<'_>, FileRefusal
     let (rom, rest) = rom_section(rest)?;
     let (sheet, rest) = sheet_section(rest, rom.len() / 2, form)?;
     let (inputs, rest) = input_section(rest)?;
-    if !rest.is_empty() {
-        return Err(FileRefusal::After);
-    }
+    ended(rest)?;
     Ok(Sections { rom, sheet, inputs })
 }
