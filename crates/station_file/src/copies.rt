@@ -32,8 +32,9 @@ pub(crate) fn double_bytes(levels: &[u8], out: &mut [u8])
     requires { length out.old ≡ 2 * length levels.now }
     ensures { out.new ≡ doubled levels.now }
 {
-    for (i, level) in out.iter_mut().enumerate() {
-        *level = levels[i / 2];
+    for (i, level) in levels.iter().enumerate() {
+        out[2 * i] = *level;
+        out[2 * i + 1] = *level;
     }
 }
 

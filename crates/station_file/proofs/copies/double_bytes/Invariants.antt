@@ -1,5 +1,5 @@
-use Rattle.std.proofs.Common.{◌≡◌, ℕ, ◌/◌, ◌<◌, get_or}
+use Rattle.std.proofs.Common.{◌≡◌, ℕ, ◌*◌, ◌/◌, ◌<◌, get_or}
 use Rattle.station_file.proofs.copies.double_bytes.Given as goal
 
 abbrev pub invariant-loop-i : goal.invariant-loop-i
-invariant-loop-i l = (k : ℕ) → k < l.i → get_or l.out k 0 ≡ get_or l.levels (k / 2) 0
+invariant-loop-i l = (k : ℕ) → k < 2 * l.i → get_or l.out k 0 ≡ get_or l.levels (k / 2) 0
