@@ -1,5 +1,6 @@
 // What the C interface, include/pollwezen.h, offers: all its entries, which `pollwezen_c` exports. Records and inputs are plain structs
-// of unsigned integers, and answers are numbers. The entries on a lent record are the forms in place of the step and the run.
+// of unsigned integers, answers are numbers, and arguments come one by one, as C passes them. The entries on a lent record are the forms
+// in place of the step and the run.
 
 #![tactic(auto)]
 

@@ -11,7 +11,7 @@ ghost use Rattle.verifier.specs.Verdict.{answer_of, check_number, verdict_number
 
 pub use verification::verify;
 
-// What the check says of a ROM and a sheet that fit each other.
+// What the check says of a ROM and a sheet that fit each other. A broken rule is its answer, and no error.
 #[derive(Clone, Copy, Debug, PartialEq, Eq)]
 pub enum Verdict {
     Pass,
