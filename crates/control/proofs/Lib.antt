@@ -2,3 +2,4 @@ pub mod Keeps
 pub mod Opcodes
 pub mod OneWord
 pub mod Numbers
+pub mod Closed

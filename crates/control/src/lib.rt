@@ -132,17 +132,18 @@ fn open(
     })
 }
 
-// One level less, and then to an address.
-fn close(stack: &mut [u16; 5], regs: Regs, to: u16) -> Result<Regs, Refusal>
-    ensures { transfer_of stack.new regs result ≡ unless_empty (with_stack stack.old regs) (jump_to to (popped (with_stack stack.old regs))) }
+// One level less, and to the address that stood on it.
+fn close(stack: &mut [u16; 5], regs: Regs) -> Result<Regs, Refusal>
+    ensures { transfer_of stack.new regs result ≡ unless_empty (with_stack stack.old regs) (jump_to (top_of (with_stack stack.old regs)) (popped (with_stack stack.old regs))) }
 {
     if regs.levels == 0 {
         return Err(Refusal::StackEmpty);
     }
     let below = regs.levels - 1;
+    let back = address_on(&*stack, below);
     clear(stack, below);
     Ok(Regs {
-        pc: to,
+        pc: back,
         levels: below,
         ..regs
     })
@@ -175,11 +176,10 @@ pub fn call_in_reach(
 pub fn ret(stack: &mut [u16; 5], regs: Regs, skip: bool) -> Result<Regs, Refusal>
     ensures { transfer_of stack.new regs result ≡ return_of skip (with_stack stack.old regs) }
 {
-    let back = top(&*stack, regs);
-    let below = close(stack, regs, back)?;
+    let back = close(stack, regs)?;
     Ok(Regs {
         skip: skip as u8,
-        ..below
+        ..back
     })
 }
 
@@ -199,11 +199,11 @@ pub fn top(stack: &[u16; 5], regs: Regs) -> u16
 }
 
 // POP AR, whose value the caller has read.
-#[tactic(auto, unfolding(crate::specs::Control::pop_of))]
 pub fn pop(model: Model, stack: &mut [u16; 5], regs: Regs) -> Result<Regs, Refusal>
     ensures { transfer_of stack.new regs result ≡ pop_of (chip_of model) (with_stack stack.old regs) }
 {
-    close(stack, regs, next(model, regs.pc))
+    let below = close(stack, regs)?;
+    Ok(jump(below, next(model, regs.pc)))
 }
 
 // MOVT: one free level is needed, and given back at once.
