@@ -1,6 +1,6 @@
 -- A level closed, and what is made of the control then.
 -- Assumes nothing.
-use Rattle.std.proofs.Common.{◌≡◌, ℕ, Bool, true, false, cond, eqb, sym, ap, ◌∙◌, eq-eqb, arith}
+use Rattle.std.proofs.Common.{◌≡◌, Bool, true, false, cond, sym, ap, ◌∙◌, eq-eqb, arith}
 use mathlib.Core.Bool.{false≢true}
 use Rattle.machine.specs.Refusals.{number_of}
 use Rattle.machine.specs.declared.Control.{Control}
