@@ -3,37 +3,29 @@
 use mathlib.Core.Path.{◌≡◌, ◌∙◌, ap}
 use mathlib.Core.List.{List, [], ◌∷◌}
 use mir.Syntax.{w32}
-use Prim.Native.Nat.{ℕ, ◌*◌, ◌/◌, ◌<◌, ◌≤◌}
+use Prim.Native.Nat.{ℕ, ◌/◌, ◌<◌, ◌≤◌}
 use native.Mathlib.Omega.{arith}
 use lib.ListN.{length, get_or, take, drop}
-use lib.Seq.{length-take-le}
 use borrow.Author.Tests.{lt-ltb, le-ltb}
 use Rattle.std.specs.Int.{from_be_bytes}
 use Rattle.std.proofs.lemmas.List.{get_or-take}
 use Rattle.station_file.specs.Forms.{load_of}
-use Rattle.station_file.specs.Read.{Buffers}
 use Rattle.station_file.specs.Reading.{Reading}
 use Rattle.station_file.specs.Station.{Station, record_bytes}
 use Rattle.transcript.specs.Why.{answer_text, last_writer, refusal_line, explanation, count_in, told_of, why_of}
-use Rattle.transcript.proofs.Parsed.{Loads}
 
 -- of a station that was read
-module _ {r : Reading Station} {words entries records : ℕ} {c : Buffers} (l : Loads r words entries records c) (cell count : ℕ) where
+module _ (r : Reading Station) (s : Station) (told : (good : Station → List ℕ) → good s ≡ told_of good r) (cell count : ℕ) where
   pub cell_refused : 127 < cell → refusal_line 32 ≡ told_of (explanation cell count) r
-  cell_refused h = rw (← l.text (explanation cell count), lt-ltb 127 cell h)
+  cell_refused h = rw (← told (explanation cell count), lt-ltb 127 cell h)
 
   module _ (h : cell ≤ 127) where
-    pub count_refused : records < count → refusal_line 33 ≡ told_of (explanation cell count) r
-    count_refused k =
-        let few : length (take (11 * records) c.inputs) / record_bytes < count = omega (arith, length-take-le (11 * records) c.inputs l.inputs) in
-        rw (← l.text (explanation cell count), le-ltb 127 cell h, lt-ltb _ count few)
+    pub count_refused : length s.inputs / record_bytes < count → refusal_line 33 ≡ told_of (explanation cell count) r
+    count_refused k = rw (← told (explanation cell count), le-ltb 127 cell h, lt-ltb _ count k)
 
-    pub answered : count ≤ records
-        → answer_text (take words c.rom) (take (11 * records) c.inputs) cell (last_writer (take words c.rom) (take (11 * records) c.inputs) cell count)
-        ≡ told_of (explanation cell count) r
-    answered k =
-        let enough : count ≤ length (take (11 * records) c.inputs) / record_bytes = omega (arith, length-take-le (11 * records) c.inputs l.inputs) in
-        rw (← l.text (explanation cell count), le-ltb 127 cell h, le-ltb _ count enough)
+    pub answered : count ≤ length s.inputs / record_bytes
+        → answer_text s.rom s.inputs cell (last_writer s.rom s.inputs cell count) ≡ told_of (explanation cell count) r
+    answered k = rw (← told (explanation cell count), le-ltb 127 cell h, le-ltb _ count k)
 
 module _ (request : List ℕ) where
   pub early : length request < 5 → refusal_line 21 ≡ why_of request

@@ -6,6 +6,7 @@ ghost use Rattle.transcript.specs.Printing.{Wrote};
 ghost use Rattle.transcript.specs.Put.{put_of};
 ghost use Rattle.transcript.specs.Why.{after_number, answer_text, last_writer, why_of, written_line};
 
+use crate::file::Buffers;
 use crate::inputs::input_of;
 use crate::line::put_bad_file;
 use crate::put::put_whole;
@@ -124,22 +125,15 @@ fn explained(request: &[u8]) -> Result<Option<Writer>, WhyRefusal>
     let Some((&[cell, a, b, c, d], file)) = request.split_first_chunk::<5>() else {
         return Err(WhyRefusal::File(FileRefusal::Early));
     };
-    let mut rom = [0u16; 1024];
-    let mut sheet = [0u8; 2048];
-    let mut inputs = [0u8; 45045];
-    let loaded = station_file::read(file, &mut rom, &mut sheet, &mut inputs)?;
+    let mut buffers = Buffers::new();
+    let station = buffers.read(file)?;
     if 127 < cell {
         return Err(WhyRefusal::Cell);
     }
     let count = u32::from_be_bytes([a, b, c, d]) as usize;
-    if loaded.records < count {
+    if station.inputs.len() / 11 < count {
         return Err(WhyRefusal::Count);
     }
-    let station = Station {
-        rom: &rom[..loaded.words],
-        sheet: &sheet[..2 * loaded.entries],
-        inputs: &inputs[..11 * loaded.records],
-    };
     Ok(station.last_writer(count, cell))
 }
 

@@ -1,8 +1,10 @@
 // The text of a file.
 ghost use Rattle.std.specs.Prelude.{◌≡◌, ◌≤◌, length};
+ghost use Rattle.station_file.specs.Forms.{load_of};
 ghost use Rattle.transcript.specs.Answers.{printed_by};
 ghost use Rattle.transcript.specs.Printing.{Wrote};
 ghost use Rattle.transcript.specs.Print.{print_of};
+ghost use Rattle.transcript.specs.Stations.{Told};
 ghost use Rattle.transcript.specs.Transcript.{transcript_of};
 
 use crate::line::put_bad_file;
@@ -10,22 +12,43 @@ use crate::put::put_whole;
 use crate::{Sink, Station};
 use station_file::FileRefusal;
 
+// The buffers that a file is read into, each with room for what a file may hold.
+#[derive(Drop)]
+pub(crate) struct Buffers {
+    rom: [u16; 1024],
+    sheet: [u8; 2048],
+    inputs: [u8; 45045],
+}
+
+impl Buffers {
+    pub(crate) fn new() -> Buffers {
+        Buffers {
+            rom: [0; 1024],
+            sheet: [0; 2048],
+            inputs: [0; 45045],
+        }
+    }
+
+    // The station of a file, in these buffers.
+    pub(crate) fn read(&mut self, file: &[u8]) -> Result<Station<'_>, FileRefusal>
+        ensures { Told result (load_of file.now) }
+    {
+        let loaded = station_file::read(file, &mut self.rom, &mut self.sheet, &mut self.inputs)?;
+        Ok(Station {
+            rom: &self.rom[..loaded.words],
+            sheet: &self.sheet[..2 * loaded.entries],
+            inputs: &self.inputs[..11 * loaded.records],
+        })
+    }
+}
+
 // The whole text of a file.
 fn put_file(file: &[u8], sink: &mut Sink)
     ensures { Wrote 100000 (transcript_of file.now) sink.old sink.new }
 {
-    let mut rom = [0u16; 1024];
-    let mut sheet = [0u8; 2048];
-    let mut inputs = [0u8; 45045];
-    match station_file::read(file, &mut rom, &mut sheet, &mut inputs) {
-        Ok(loaded) => {
-            let station = Station {
-                rom: &rom[..loaded.words],
-                sheet: &sheet[..2 * loaded.entries],
-                inputs: &inputs[..11 * loaded.records],
-            };
-            station.put_text(sink);
-        }
+    let mut buffers = Buffers::new();
+    match buffers.read(file) {
+        Ok(station) => station.put_text(sink),
         Err(refusal) => put_bad_file(sink, u8::from(refusal)),
     }
 }
