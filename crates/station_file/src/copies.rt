@@ -1,4 +1,5 @@
-// What is written to a lent buffer, each to a part of it that it fills.
+// What is written to a lent buffer, each to a part of it that it fills. Elements go by an index: of what a `zip` of `iter_mut` writes a
+// proof knows nothing.
 ghost use Rattle.std.specs.Prelude.{◌≡◌, ◌*◌, ◌/◌, length};
 ghost use Rattle.station_file.specs.Answers.{written_by};
 ghost use Rattle.station_file.specs.Forms.{doubled, lowest_of};

@@ -18,7 +18,7 @@ pub fn file_buffer() -> [u8; FILE_ROOM]
     [0; FILE_ROOM]
 }
 
-// One read, of the bytes from a place on.
+// One read, of the bytes from a place on. The place goes beside the buffer, since `interpret` answers places.
 fn read_some<R: Read>(input: &mut R, buffer: &mut [u8], at: usize) -> io::Result<Meaning>
     requires { at < length buffer.old }
     ensures means { Means at (length buffer.old) result }

@@ -8,7 +8,7 @@ use crate::answer::interpret;
 use std::io;
 use std::io::Write;
 
-// One write, of the bytes from a place on.
+// One write, of the bytes from a place on, which goes beside them as in a read.
 fn write_some<W: Write>(output: &mut W, bytes: &[u8], at: usize) -> io::Result<Meaning>
     requires { at < length bytes.now }
     ensures means { Means at (length bytes.now) result }
