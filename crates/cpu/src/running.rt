@@ -73,10 +73,8 @@ fn go(
     let pins = input.pins;
     let mut registers = peripherals.registers;
     let mut timer = timer_of(peripherals);
-    let mut steps: u32 = 0;
     let mut cycles: u32 = 0;
-    // A `for` over the budget keeps two counts, and takes 4 or 5 instructions more in each step.
-    while steps < budget {
+    for steps in 0..budget {
         match advance(
             model,
             rom,
@@ -88,7 +86,6 @@ fn go(
             timer,
         ) {
             Ok(step) => {
-                steps += 1;
                 cycles += step.cycles as u32;
                 regs = step.regs;
                 timer = pace(&registers, step.timer, step.cycles, pulse);
@@ -96,7 +93,10 @@ fn go(
                     return Reached {
                         peripherals: whole(registers, timer),
                         control: control_of(stack, regs),
-                        count: Count { steps, cycles },
+                        count: Count {
+                            steps: steps + 1,
+                            cycles,
+                        },
                         answer: Ok(Completion::Done),
                     };
                 }
@@ -114,7 +114,10 @@ fn go(
     Reached {
         peripherals: whole(registers, timer),
         control: control_of(stack, regs),
-        count: Count { steps, cycles },
+        count: Count {
+            steps: budget,
+            cycles,
+        },
         answer: Ok(Completion::Done),
     }
 }

@@ -145,5 +145,6 @@ returns-in-Err c =
 pub returns : goal.returns
 returns c =
     let h = (goal.at.returns c).At-loop-steps in
-    let e = ends h _ _ _ (used _ _ _ _ _ _ _ (head h) c.loop-steps-test.false) in
+    let all : h.loop-steps.steps ≡ budget h = omega (arith, c.loop-steps-test.false, (head h).some) in
+    let e = rw all at (ends h _ _ _ (used _ _ _ _ _ _ _ (head h) c.loop-steps-test.false)) in
     rw (c.control_of-2.ensures, c.join-2.ensures) (record { ran = e.run; stepped = e.step })
