@@ -32,7 +32,7 @@ impl Turn<'_> {
     fn wrote(&self, cell: u8) -> bool
         ensures { result ≡ wrote_by self.now cell }
     {
-        let before = self.before.machine;
+        let before = &self.before.machine;
         let control = before.control;
         if self.after.count.steps == self.before.count.steps {
             return false;
@@ -43,14 +43,12 @@ impl Turn<'_> {
         let Some(instruction) = isa::decode(word_at(self.rom, control.pc)) else {
             return false;
         };
-        let memory = before.memory;
-        let peripherals = before.peripherals;
         operations::writes(
             Model::Upd17132,
-            &memory.cells,
+            &before.memory.cells,
             Ports {
                 pins: &self.input.pins,
-                registers: &peripherals.registers,
+                registers: &before.peripherals.registers,
             },
             instruction,
             cell,
@@ -62,15 +60,13 @@ impl Turn<'_> {
         requires { cell < 128 }
         ensures { result ≡ told_by self.now cell }
     {
-        let before = self.before.machine;
-        let after = self.after.machine;
-        let control = before.control;
-        let memory = after.memory;
+        let control = self.before.machine.control;
+        let after = &self.after.machine;
         Writer {
             number: self.number,
             pc: control.pc,
             word: word_at(self.rom, control.pc),
-            nibble: memory.cells[cell as usize],
+            nibble: after.memory.cells[cell as usize],
         }
     }
 }

@@ -13,16 +13,14 @@ use machine::{Machine, Refusal};
 use memory::Memory;
 
 // What follows a record's number: PC before, the word, PC after, open levels and PSW.
-fn fields(pc: u16, word: [u8; 4], after: Machine) -> [u8; 18]
-    ensures { result ≡ fields_of pc word after }
+fn fields(pc: u16, word: [u8; 4], after: &Machine) -> [u8; 18]
+    ensures { result ≡ fields_of pc word after.now }
 {
     let control = after.control;
-    let memory = after.memory;
-    let cells = memory.cells;
     let from = text::hex4(pc);
     let to = text::hex4(control.pc);
     let levels = text::hex_digit(control.levels);
-    let psw = text::hex_digit(cells[Memory::PSW as usize]);
+    let psw = text::hex_digit(after.memory.cells[Memory::PSW as usize]);
     [
         b' ', from[1], from[2], from[3], b' ', word[0], word[1], word[2], word[3], b' ', to[1],
         to[2], to[3], b' ', levels, b' ', psw, b'\n',
@@ -30,8 +28,8 @@ fn fields(pc: u16, word: [u8; 4], after: Machine) -> [u8; 18]
 }
 
 // The line of a record.
-pub(crate) fn put_line(sink: &mut Sink, number: u16, pc: u16, word: [u8; 4], after: Machine)
-    ensures { Wrote 23 (decimal number ++ fields_of pc word after) sink.old sink.new }
+pub(crate) fn put_line(sink: &mut Sink, number: u16, pc: u16, word: [u8; 4], after: &Machine)
+    ensures { Wrote 23 (decimal number ++ fields_of pc word after.now) sink.old sink.new }
 {
     sink.put_decimal(number);
     sink.put(&fields(pc, word, after));

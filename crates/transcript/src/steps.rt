@@ -64,18 +64,23 @@ impl Station<'_> {
             return progress;
         }
         let before = progress.machine;
-        let control = before.control;
-        let pc = control.pc;
+        let pc = before.control.pc;
         let stepped = cpu::step(Model::Upd17132, self.rom, before, input, 0);
         let machine = stepped.machine;
         let count = total(progress.count, stepped.count);
         let refusal = match stepped.answer {
             Ok(Completion::Done) => {
-                put_line(sink, number, pc, text::hex4(word_at(self.rom, pc)), machine);
+                put_line(
+                    sink,
+                    number,
+                    pc,
+                    text::hex4(word_at(self.rom, pc)),
+                    &machine,
+                );
                 None
             }
             Ok(Completion::Standby) => {
-                put_line(sink, number, pc, *b"----", machine);
+                put_line(sink, number, pc, *b"----", &machine);
                 None
             }
             Err(refusal) => Some(refusal),
