@@ -91,6 +91,7 @@ fn present(model: Model, a: Addresses) -> Result<(), Refusal>
 
 // An instruction, but for what it sets of the peripherals. Nothing is written before the test for missing cells. That stands in each
 // arm with operands: once, between `locate` and `match`, it keeps the compiler from joining the two by the instruction.
+// Each arm returns: the value of the `match` was packed into a word and taken apart again.
 pub(crate) fn execute(
     model: Model,
     rom: &[u16],
