@@ -39,6 +39,7 @@ const SUMS: [u8; 32] = [
     0b1_1101, // 31: 1 1101
 ];
 
+// Two lines, here and in `difference`: the table is all that differs, so one function of both would be its index alone.
 pub(crate) fn sum(row: u8) -> u8
     requires { row < 32 }
     ensures { result ≡ get_or sum_rows row 0 }

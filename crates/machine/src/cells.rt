@@ -1,4 +1,4 @@
-// Which cells are in range.
+// Which cells are in range. Model and cells go side by side, as in `memory`.
 ghost use Rattle.std.specs.Prelude.{◌≡◌, cond, ◌<◌};
 ghost use Rattle.laws.specs.Every.{every};
 ghost use Rattle.memory.specs.Chip.{chip_of};

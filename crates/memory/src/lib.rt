@@ -1,5 +1,6 @@
-// Data memory: 128 nibbles, eight rows of sixteen. The cells are an array by value, and one at a time is written. The registers
-// that stand in it: effective addresses, WR, AR, IX and the data buffer.
+// Data memory: 128 nibbles, eight rows of sixteen. The cells are an array by value, and one at a time is written; the model goes beside
+// the array, which the cell write takes and returns alone. The registers that stand in it: effective addresses, WR, AR, IX and the data
+// buffer.
 
 #![tactic(auto)]
 

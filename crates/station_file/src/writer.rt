@@ -1,4 +1,4 @@
-// The writer.
+// The writer. A station comes as three slices, which the host lends one by one.
 ghost use Rattle.std.specs.Prelude.{◌≡◌, ◌++◌, ◌+◌, ◌*◌, ◌/◌, ◌<◌, ◌≤◌, length};
 ghost use Rattle.station_file.specs.Station.{form2};
 ghost use Rattle.station_file.specs.Forms.{entries_of, in_file};
