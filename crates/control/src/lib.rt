@@ -68,151 +68,153 @@ pub struct Regs {
     pub standby: u8,
 }
 
-// To the next word, with the skip mark set or not.
-#[tactic(auto, unfolding(crate::specs::Control::onward_of))]
-pub fn onward(model: Model, regs: Regs, skips: bool) -> Regs
-    ensures { (stack : List ℕ) → goes (with_stack stack result) ≡ onward_of (chip_of model) skips (with_stack stack regs) }
-{
-    Regs {
-        pc: next(model, regs.pc),
-        skip: skips as u8,
-        ..regs
+impl Regs {
+    // To the next word, with the skip mark set or not.
+    #[tactic(auto, unfolding(crate::specs::Control::onward_of))]
+    pub fn onward(self, model: Model, skips: bool) -> Regs
+        ensures { (stack : List ℕ) → goes (with_stack stack result) ≡ onward_of (chip_of model) skips (with_stack stack self) }
+    {
+        Regs {
+            pc: next(model, self.pc),
+            skip: skips as u8,
+            ..self
+        }
     }
-}
 
-// HALT and STOP, each with its mark.
-#[tactic(auto, unfolding(crate::specs::Control::standby_of))]
-pub fn stand(model: Model, regs: Regs, mark: u8) -> Regs
-    ensures { (stack : List ℕ) → goes (with_stack stack result) ≡ standby_of (chip_of model) mark (with_stack stack regs) }
-{
-    Regs {
-        pc: next(model, regs.pc),
-        standby: mark,
-        ..regs
+    // HALT and STOP, each with its mark.
+    #[tactic(auto, unfolding(crate::specs::Control::standby_of))]
+    pub fn stand(self, model: Model, mark: u8) -> Regs
+        ensures { (stack : List ℕ) → goes (with_stack stack result) ≡ standby_of (chip_of model) mark (with_stack stack self) }
+    {
+        Regs {
+            pc: next(model, self.pc),
+            standby: mark,
+            ..self
+        }
     }
-}
 
-// BR @AR, and BR once its target is known to be in reach.
-pub fn jump(regs: Regs, to: u16) -> Regs
-    ensures { (stack : List ℕ) → with_stack stack result ≡ jump_to to (with_stack stack regs) }
-{
-    Regs { pc: to, ..regs }
-}
-
-// BR.
-#[tactic(auto, unfolding(crate::specs::Control::branch_of))]
-pub fn branch(model: Model, regs: Regs, to: u16) -> Result<Regs, Refusal>
-    ensures { (stack : List ℕ) → transfer_of stack regs result ≡ branch_of (chip_of model) to (with_stack stack regs) }
-{
-    if model.addresses() <= to {
-        return Err(Refusal::BadTarget);
+    // BR @AR, and BR once its target is known to be in reach.
+    pub fn jump(self, to: u16) -> Regs
+        ensures { (stack : List ℕ) → with_stack stack result ≡ jump_to to (with_stack stack self) }
+    {
+        Regs { pc: to, ..self }
     }
-    Ok(jump(regs, to))
-}
 
-// One level more, with an address on it, and then to another.
-fn open(
-    model: Model,
-    stack: &mut [u16; 5],
-    regs: Regs,
-    address: u16,
-    to: u16,
-) -> Result<Regs, Refusal>
-    ensures { transfer_of stack.new regs result ≡ unless_full (chip_of model) (with_stack stack.old regs) (jump_to to (pushed address (with_stack stack.old regs))) }
-{
-    let levels = regs.levels;
-    if model.levels() <= levels {
-        return Err(Refusal::StackFull);
+    // BR.
+    #[tactic(auto, unfolding(crate::specs::Control::branch_of))]
+    pub fn branch(self, model: Model, to: u16) -> Result<Regs, Refusal>
+        ensures { (stack : List ℕ) → transfer_of stack self result ≡ branch_of (chip_of model) to (with_stack stack self) }
+    {
+        if model.addresses() <= to {
+            return Err(Refusal::BadTarget);
+        }
+        Ok(self.jump(to))
     }
-    stack[levels as usize] = address;
-    Ok(Regs {
-        pc: to,
-        levels: levels + 1,
-        ..regs
-    })
-}
 
-// One level less, and to the address that stood on it.
-fn close(stack: &mut [u16; 5], regs: Regs) -> Result<Regs, Refusal>
-    ensures { transfer_of stack.new regs result ≡ unless_empty (with_stack stack.old regs) (jump_to (top_of (with_stack stack.old regs)) (popped (with_stack stack.old regs))) }
-{
-    if regs.levels == 0 {
-        return Err(Refusal::StackEmpty);
+    // One level more, with an address on it, and then to another.
+    fn open(
+        self,
+        model: Model,
+        stack: &mut [u16; 5],
+        address: u16,
+        to: u16,
+    ) -> Result<Regs, Refusal>
+        ensures { transfer_of stack.new self result ≡ unless_full (chip_of model) (with_stack stack.old self) (jump_to to (pushed address (with_stack stack.old self))) }
+    {
+        let levels = self.levels;
+        if model.levels() <= levels {
+            return Err(Refusal::StackFull);
+        }
+        stack[levels as usize] = address;
+        Ok(Regs {
+            pc: to,
+            levels: levels + 1,
+            ..self
+        })
     }
-    let below = regs.levels - 1;
-    let back = address_on(&*stack, below);
-    clear(stack, below);
-    Ok(Regs {
-        pc: back,
-        levels: below,
-        ..regs
-    })
-}
 
-// CALL @AR, and CALL once its target is known to be in reach.
-#[tactic(auto, unfolding(crate::specs::Control::call_of))]
-pub fn call(model: Model, stack: &mut [u16; 5], regs: Regs, target: u16) -> Result<Regs, Refusal>
-    ensures { transfer_of stack.new regs result ≡ call_of (chip_of model) target (with_stack stack.old regs) }
-{
-    open(model, stack, regs, next(model, regs.pc), target)
-}
-
-// CALL: the target is tried before the stack.
-pub fn call_in_reach(
-    model: Model,
-    stack: &mut [u16; 5],
-    regs: Regs,
-    target: u16,
-) -> Result<Regs, Refusal>
-    ensures { transfer_of stack.new regs result ≡ in_reach (chip_of model) target (with_stack stack.old regs) (call_of (chip_of model) target (with_stack stack.old regs)) }
-{
-    if model.addresses() <= target {
-        return Err(Refusal::BadTarget);
+    // One level less, and to the address that stood on it.
+    fn close(self, stack: &mut [u16; 5]) -> Result<Regs, Refusal>
+        ensures { transfer_of stack.new self result ≡ unless_empty (with_stack stack.old self) (jump_to (top_of (with_stack stack.old self)) (popped (with_stack stack.old self))) }
+    {
+        if self.levels == 0 {
+            return Err(Refusal::StackEmpty);
+        }
+        let below = self.levels - 1;
+        let back = address_on(&*stack, below);
+        clear(stack, below);
+        Ok(Regs {
+            pc: back,
+            levels: below,
+            ..self
+        })
     }
-    call(model, stack, regs, target)
-}
 
-// RET, and RETSK, which sets the skip mark.
-pub fn ret(stack: &mut [u16; 5], regs: Regs, skip: bool) -> Result<Regs, Refusal>
-    ensures { transfer_of stack.new regs result ≡ return_of skip (with_stack stack.old regs) }
-{
-    let back = close(stack, regs)?;
-    Ok(Regs {
-        skip: skip as u8,
-        ..back
-    })
-}
-
-// PUSH AR.
-#[tactic(auto, unfolding(crate::specs::Control::push_of))]
-pub fn push(model: Model, stack: &mut [u16; 5], regs: Regs, ar: u16) -> Result<Regs, Refusal>
-    ensures { transfer_of stack.new regs result ≡ push_of (chip_of model) ar (with_stack stack.old regs) }
-{
-    open(model, stack, regs, ar, next(model, regs.pc))
-}
-
-// The address on the highest open level; with none open the one on the lowest place, and past the fifth 0.
-pub fn top(stack: &[u16; 5], regs: Regs) -> u16
-    ensures { result ≡ top_of (with_stack stack.now regs) }
-{
-    address_on(stack, regs.levels.saturating_sub(1))
-}
-
-// POP AR, whose value the caller has read.
-pub fn pop(model: Model, stack: &mut [u16; 5], regs: Regs) -> Result<Regs, Refusal>
-    ensures { transfer_of stack.new regs result ≡ pop_of (chip_of model) (with_stack stack.old regs) }
-{
-    let below = close(stack, regs)?;
-    Ok(jump(below, next(model, regs.pc)))
-}
-
-// MOVT: one free level is needed, and given back at once.
-#[tactic(auto, unfolding(crate::specs::Control::table_of))]
-pub fn table(model: Model, regs: Regs) -> Result<Regs, Refusal>
-    ensures { (stack : List ℕ) → transfer_of stack regs result ≡ table_of (chip_of model) (with_stack stack regs) }
-{
-    if model.levels() <= regs.levels {
-        return Err(Refusal::StackFull);
+    // CALL @AR, and CALL once its target is known to be in reach.
+    #[tactic(auto, unfolding(crate::specs::Control::call_of))]
+    pub fn call(self, model: Model, stack: &mut [u16; 5], target: u16) -> Result<Regs, Refusal>
+        ensures { transfer_of stack.new self result ≡ call_of (chip_of model) target (with_stack stack.old self) }
+    {
+        self.open(model, stack, next(model, self.pc), target)
     }
-    Ok(jump(regs, next(model, regs.pc)))
+
+    // CALL: the target is tried before the stack.
+    pub fn call_in_reach(
+        self,
+        model: Model,
+        stack: &mut [u16; 5],
+        target: u16,
+    ) -> Result<Regs, Refusal>
+        ensures { transfer_of stack.new self result ≡ in_reach (chip_of model) target (with_stack stack.old self) (call_of (chip_of model) target (with_stack stack.old self)) }
+    {
+        if model.addresses() <= target {
+            return Err(Refusal::BadTarget);
+        }
+        self.call(model, stack, target)
+    }
+
+    // RET, and RETSK, which sets the skip mark.
+    pub fn ret(self, stack: &mut [u16; 5], skip: bool) -> Result<Regs, Refusal>
+        ensures { transfer_of stack.new self result ≡ return_of skip (with_stack stack.old self) }
+    {
+        let back = self.close(stack)?;
+        Ok(Regs {
+            skip: skip as u8,
+            ..back
+        })
+    }
+
+    // PUSH AR.
+    #[tactic(auto, unfolding(crate::specs::Control::push_of))]
+    pub fn push(self, model: Model, stack: &mut [u16; 5], ar: u16) -> Result<Regs, Refusal>
+        ensures { transfer_of stack.new self result ≡ push_of (chip_of model) ar (with_stack stack.old self) }
+    {
+        self.open(model, stack, ar, next(model, self.pc))
+    }
+
+    // The address on the highest open level; with none open the one on the lowest place, and past the fifth 0.
+    pub fn top(self, stack: &[u16; 5]) -> u16
+        ensures { result ≡ top_of (with_stack stack.now self) }
+    {
+        address_on(stack, self.levels.saturating_sub(1))
+    }
+
+    // POP AR, whose value the caller has read.
+    pub fn pop(self, model: Model, stack: &mut [u16; 5]) -> Result<Regs, Refusal>
+        ensures { transfer_of stack.new self result ≡ pop_of (chip_of model) (with_stack stack.old self) }
+    {
+        let below = self.close(stack)?;
+        Ok(below.jump(next(model, self.pc)))
+    }
+
+    // MOVT: one free level is needed, and given back at once.
+    #[tactic(auto, unfolding(crate::specs::Control::table_of))]
+    pub fn table(self, model: Model) -> Result<Regs, Refusal>
+        ensures { (stack : List ℕ) → transfer_of stack self result ≡ table_of (chip_of model) (with_stack stack self) }
+    {
+        if model.levels() <= self.levels {
+            return Err(Refusal::StackFull);
+        }
+        Ok(self.jump(next(model, self.pc)))
+    }
 }

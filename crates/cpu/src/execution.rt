@@ -22,7 +22,7 @@ use peripherals::{Peripherals, Timer};
 fn movt(model: Model, rom: &[u16], cells: &mut [u8; 128], regs: Regs) -> Result<Regs, Refusal>
     ensures { (signals : Signals) (p : Parts) (stack : List ℕ) → executed_of cells.new stack p p regs result ≡ execute_of (chip_of model) rom.now signals (Instruction.Fixed FixedOp.Movt) (whole_of cells.old stack p regs) }
 {
-    let next = control::table(model, regs)?;
+    let next = regs.table(model)?;
     let Some(word) = fetch(rom, memory::ar(&*cells)) else {
         return Err(Refusal::PastTable);
     };
@@ -39,8 +39,8 @@ fn pop_ar(
 ) -> Result<Regs, Refusal>
     ensures { (rom : List ℕ) (signals : Signals) (p : Parts) → executed_of cells.new stack.new p p regs result ≡ execute_of (chip_of model) rom signals (Instruction.Fixed FixedOp.PopAr) (whole_of cells.old stack.old p regs) }
 {
-    let top = control::top(&*stack, regs);
-    let next = control::pop(model, stack, regs)?;
+    let top = regs.top(&*stack);
+    let next = regs.pop(model, stack)?;
     *cells = memory::write_ar(model, *cells, top);
     Ok(next)
 }
@@ -59,23 +59,23 @@ fn fixed(
     match op {
         FixedOp::IncAr => {
             *cells = memory::increment_ar(model, *cells);
-            return Ok(control::onward(model, regs, false));
+            return Ok(regs.onward(model, false));
         }
         FixedOp::IncIx => {
             *cells = memory::increment_ix(model, *cells);
-            return Ok(control::onward(model, regs, false));
+            return Ok(regs.onward(model, false));
         }
         FixedOp::Movt => return movt(model, rom, cells, regs),
-        FixedOp::PushAr => return control::push(model, stack, regs, memory::ar(&*cells)),
+        FixedOp::PushAr => return regs.push(model, stack, memory::ar(&*cells)),
         FixedOp::PopAr => return pop_ar(model, cells, stack, regs),
-        FixedOp::BrAr => return Ok(control::jump(regs, memory::ar(&*cells))),
-        FixedOp::CallAr => return control::call(model, stack, regs, memory::ar(&*cells)),
-        FixedOp::Ret => return control::ret(stack, regs, false),
-        FixedOp::Retsk => return control::ret(stack, regs, true),
+        FixedOp::BrAr => return Ok(regs.jump(memory::ar(&*cells))),
+        FixedOp::CallAr => return regs.call(model, stack, memory::ar(&*cells)),
+        FixedOp::Ret => return regs.ret(stack, false),
+        FixedOp::Retsk => return regs.ret(stack, true),
         FixedOp::Reti => return Err(Refusal::Unsupported),
         FixedOp::Ei => return Err(Refusal::Unsupported),
         FixedOp::Di => return Err(Refusal::Unsupported),
-        FixedOp::Nop => return Ok(control::onward(model, regs, false)),
+        FixedOp::Nop => return Ok(regs.onward(model, false)),
     }
 }
 
@@ -110,47 +110,47 @@ pub(crate) fn execute(
             present(model, a)?;
             let b = operations::read(model, &*cells, ports, a.from);
             operations::operate(model, cells, ports, op, a.to, b);
-            return Ok(control::onward(model, regs, false));
+            return Ok(regs.onward(model, false));
         }
         Instruction::AluImmediate { op, m: _, n4 } => {
             present(model, a)?;
             operations::operate(model, cells, ports, op, a.to, n4);
-            return Ok(control::onward(model, regs, false));
+            return Ok(regs.onward(model, false));
         }
         Instruction::Skip { op, m: _, n4 } => {
             present(model, a)?;
             let holds = operations::skip(model, cells, ports, op, a.from, n4);
-            return Ok(control::onward(model, regs, holds));
+            return Ok(regs.onward(model, holds));
         }
         Instruction::Rorc(_) => {
             present(model, a)?;
             operations::rorc(model, cells, ports, a.to);
-            return Ok(control::onward(model, regs, false));
+            return Ok(regs.onward(model, false));
         }
         Instruction::Ld { r: _, m: _ } => {
             present(model, a)?;
             operations::transfer(model, cells, ports, a);
-            return Ok(control::onward(model, regs, false));
+            return Ok(regs.onward(model, false));
         }
         Instruction::St { m: _, r: _ } => {
             present(model, a)?;
             operations::transfer(model, cells, ports, a);
-            return Ok(control::onward(model, regs, false));
+            return Ok(regs.onward(model, false));
         }
         Instruction::MovToIndirect { r: _, m: _ } => {
             present(model, a)?;
             operations::transfer(model, cells, ports, a);
-            return Ok(control::onward(model, regs, false));
+            return Ok(regs.onward(model, false));
         }
         Instruction::MovFromIndirect { m: _, r: _ } => {
             present(model, a)?;
             operations::transfer(model, cells, ports, a);
-            return Ok(control::onward(model, regs, false));
+            return Ok(regs.onward(model, false));
         }
         Instruction::MovImmediate { m: _, n4 } => {
             present(model, a)?;
             memory::store(model, cells, a.to, n4);
-            return Ok(control::onward(model, regs, false));
+            return Ok(regs.onward(model, false));
         }
         Instruction::Peek(rf) => {
             present(model, a)?;
@@ -158,7 +158,7 @@ pub(crate) fn execute(
                 return Err(Refusal::NoRegister);
             }
             operations::peek(model, cells, ports, rf);
-            return Ok(control::onward(model, regs, false));
+            return Ok(regs.onward(model, false));
         }
         Instruction::Poke(to) => {
             present(model, a)?;
@@ -166,25 +166,25 @@ pub(crate) fn execute(
                 return Err(Refusal::NoRegister);
             }
             operations::poke(model, cells, to);
-            return Ok(control::onward(model, regs, false));
+            return Ok(regs.onward(model, false));
         }
         Instruction::Get(p) => {
             if p != Peripherals::TMC {
                 return Err(Refusal::NoRegister);
             }
             *cells = memory::write_low_byte(model, *cells, timer.counter);
-            return Ok(control::onward(model, regs, false));
+            return Ok(regs.onward(model, false));
         }
         Instruction::Put(p) => {
             if p != Peripherals::TMM {
                 return Err(Refusal::NoRegister);
             }
-            return Ok(control::onward(model, regs, false));
+            return Ok(regs.onward(model, false));
         }
-        Instruction::Br(addr) => return control::branch(model, regs, addr),
-        Instruction::Call(addr) => return control::call_in_reach(model, stack, regs, addr),
-        Instruction::Stop(_) => return Ok(control::stand(model, regs, Machine::STOP)),
-        Instruction::Halt(_) => return Ok(control::stand(model, regs, Machine::HALT)),
+        Instruction::Br(addr) => return regs.branch(model, addr),
+        Instruction::Call(addr) => return regs.call_in_reach(model, stack, addr),
+        Instruction::Stop(_) => return Ok(regs.stand(model, Machine::STOP)),
+        Instruction::Halt(_) => return Ok(regs.stand(model, Machine::HALT)),
         Instruction::Fixed(op) => return fixed(model, rom, op, cells, stack, regs),
     }
 }

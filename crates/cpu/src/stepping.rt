@@ -70,7 +70,7 @@ pub(crate) fn advance(
     let awake = woken(regs);
     if regs.skip != 0 {
         return Ok(Advanced {
-            regs: control::onward(model, awake, false),
+            regs: awake.onward(model, false),
             timer,
             cycles: 1,
         });

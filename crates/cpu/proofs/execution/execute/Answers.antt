@@ -174,7 +174,7 @@ unfolding transfer_by control_of past_table written_of writes_of writes_at write
 returns-in-Br c = λ directions release pulse.
     let s = c.args in
     rw c.in-Br.is
-    (moves _ _ _ _ _ _ _ _ c.branch-model.result s.stack.now (c.branch-model.ensures s.stack.now) refl refl refl)
+    (moves _ _ _ _ _ _ _ _ c.branch-regs.result s.stack.now (c.branch-regs.ensures s.stack.now) refl refl refl)
 
 pub returns-in-Call : goal.returns-in-Call
 unfolding transfer_by control_of past_table written_of writes_of writes_at writes_applied settings_of lacks_of lacks_at addresses_of address_in

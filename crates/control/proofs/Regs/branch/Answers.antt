@@ -1,6 +1,6 @@
 use borrow.Author.Tests.{lt-leb}
 use Rattle.control.specs.Control.{branch_of}
-use Rattle.control.proofs.branch.Goals as goal
+use Rattle.control.proofs.Regs.branch.Goals as goal
 
 pub returns : goal.returns
 unfolding branch_of

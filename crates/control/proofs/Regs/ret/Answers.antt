@@ -2,7 +2,7 @@ use Rattle.std.proofs.lemmas.Result.{err_from_is_err_and}
 use Rattle.laws.proofs.Bits.{byte_bit}
 use Rattle.control.specs.Control.{with_skip, return_of}
 use Rattle.control.proofs.Closed.{refused, closed}
-use Rattle.control.proofs.ret.Goals as goal
+use Rattle.control.proofs.Regs.ret.Goals as goal
 
 pub returns-in_err-back : goal.returns-in_err-back
 unfolding return_of
