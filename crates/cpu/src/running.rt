@@ -13,7 +13,7 @@ use crate::stepping::{advance, control_of, join, regs_of, stays_standing, stood}
 use crate::{Completion, Count, Ran, Reached, Stepped};
 use machine::{Control, Input, Machine, Refusal, ranges};
 use memory::Model;
-use peripherals::{Peripherals, join as whole, pace, timer_of};
+use peripherals::{Peripherals, Timer};
 
 // How a run ends, by the answer that it stopped with.
 pub fn end_of(answer: Result<Completion, Refusal>) -> Result<(), Refusal>
@@ -72,7 +72,7 @@ fn go(
     }
     let pins = input.pins;
     let mut registers = peripherals.registers;
-    let mut timer = timer_of(peripherals);
+    let mut timer = Timer::from(peripherals);
     let mut cycles: u32 = 0;
     for steps in 0..budget {
         match advance(
@@ -88,10 +88,10 @@ fn go(
             Ok(step) => {
                 cycles += step.cycles as u32;
                 regs = step.regs;
-                timer = pace(&registers, step.timer, step.cycles, pulse);
+                timer = step.timer.pace(&registers, step.cycles, pulse);
                 if regs.standby != 0 {
                     return Reached {
-                        peripherals: whole(registers, timer),
+                        peripherals: timer.with(registers),
                         control: control_of(stack, regs),
                         count: Count {
                             steps: steps + 1,
@@ -103,7 +103,7 @@ fn go(
             }
             Err(refusal) => {
                 return Reached {
-                    peripherals: whole(registers, timer),
+                    peripherals: timer.with(registers),
                     control: control_of(stack, regs),
                     count: Count { steps, cycles },
                     answer: Err(refusal),
@@ -112,7 +112,7 @@ fn go(
         }
     }
     Reached {
-        peripherals: whole(registers, timer),
+        peripherals: timer.with(registers),
         control: control_of(stack, regs),
         count: Count {
             steps: budget,

@@ -107,8 +107,8 @@ pub(crate) fn stood(standby: u8, p: Peripherals, pulse: u8) -> Peripherals
         return p;
     }
     let registers = p.registers;
-    let timer = peripherals::tick(&registers, peripherals::timer_of(p), 1, pulse);
-    peripherals::join(registers, timer)
+    let timer = Timer::from(p).tick(&registers, 1, pulse);
+    timer.with(registers)
 }
 
 pub(crate) fn regs_of(c: Control) -> Regs

@@ -67,7 +67,7 @@ pub fn set(
         Instruction::Poke(rf) if rf < Peripherals::DATA => {
             peripherals::poke(registers, timer, rf, memory::window(cells))
         }
-        Instruction::Put(_) => peripherals::with_modulo(timer, memory::low_byte(cells)),
+        Instruction::Put(_) => timer.with_modulo(memory::low_byte(cells)),
         _ => timer,
     }
 }

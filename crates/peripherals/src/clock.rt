@@ -76,32 +76,6 @@ fn moved(divider: u8, cycles: u8) -> u8
     divider.wrapping_add(cycles) % 128
 }
 
-// The counter after so many cycles.
-fn counted(registers: &[u8; 7], timer: Timer, cycles: u8, pulse: u8) -> u8
-    ensures { result ≡ counter_of (with_timer registers.now timer) cycles pulse }
-{
-    match running(registers) {
-        Some(clock) if comes(clock, timer.divider, cycles, pulse) => {
-            count(timer.modulo, timer.counter)
-        }
-        _ => timer.counter,
-    }
-}
-
-// A step's cycles, at most two, after its writes; with TMCK 11 its pulse is the one given.
-#[tactic(auto, unfolding(crate::specs::Timer::tick_of))]
-pub fn tick(registers: &[u8; 7], timer: Timer, cycles: u8, pulse: u8) -> Timer
-    ensures { (with_timer registers.now result ≡ tick_of (with_timer registers.now timer) cycles pulse) × (result.quiet ≡ 0) }
-{
-    let divider = moved(timer.divider, cycles);
-    Timer {
-        counter: counted(registers, timer, cycles, pulse),
-        divider,
-        quiet: 0,
-        ..timer
-    }
-}
-
 // How many cycles from a divider bring no pulse that counts.
 #[tactic(auto, unfolding(crate::specs::Pace::rest_of, crate::specs::Pace::rest_in, crate::specs::Timer::period_of))]
 fn rest(registers: &[u8; 7], divider: u8, pulse: u8) -> u16
@@ -116,31 +90,59 @@ fn rest(registers: &[u8; 7], divider: u8, pulse: u8) -> u16
     }
 }
 
-// The same as a tick where the timer is as quiet as it says: the clock is looked at only where a pulse can come.
-pub fn pace(registers: &[u8; 7], timer: Timer, cycles: u8, pulse: u8) -> Timer
-    ensures { (with_timer registers.now result ≡ paced_of (with_timer registers.now timer) timer.quiet cycles pulse) × (result.quiet ≡ left_of (with_timer registers.now timer) timer.quiet cycles pulse) }
-{
-    if cycles as u16 <= timer.quiet {
-        return Timer {
-            divider: moved(timer.divider, cycles),
-            quiet: timer.quiet - cycles as u16,
-            ..timer
-        };
+impl Timer {
+    // The counter after so many cycles.
+    fn counted(self, registers: &[u8; 7], cycles: u8, pulse: u8) -> u8
+        ensures { result ≡ counter_of (with_timer registers.now self) cycles pulse }
+    {
+        match running(registers) {
+            Some(clock) if comes(clock, self.divider, cycles, pulse) => {
+                count(self.modulo, self.counter)
+            }
+            _ => self.counter,
+        }
     }
-    let after = tick(registers, timer, cycles, pulse);
-    Timer {
-        quiet: rest(registers, after.divider, pulse),
-        ..after
-    }
-}
 
-// PUT to the modulo register.
-pub fn with_modulo(timer: Timer, v: u8) -> Timer
-    ensures { ((registers : List ℕ) → with_timer registers result ≡ with_modulo (with_timer registers timer) v) × (result.quiet ≡ 0) }
-{
-    Timer {
-        modulo: v,
-        quiet: 0,
-        ..timer
+    // A step's cycles, at most two, after its writes; with TMCK 11 its pulse is the one given.
+    #[tactic(auto, unfolding(crate::specs::Timer::tick_of))]
+    pub fn tick(self, registers: &[u8; 7], cycles: u8, pulse: u8) -> Timer
+        ensures { (with_timer registers.now result ≡ tick_of (with_timer registers.now self) cycles pulse) × (result.quiet ≡ 0) }
+    {
+        let divider = moved(self.divider, cycles);
+        Timer {
+            counter: self.counted(registers, cycles, pulse),
+            divider,
+            quiet: 0,
+            ..self
+        }
+    }
+
+    // The same as a tick where the timer is as quiet as it says: the clock is looked at only where a pulse can come.
+    pub fn pace(self, registers: &[u8; 7], cycles: u8, pulse: u8) -> Timer
+        ensures { (with_timer registers.now result ≡ paced_of (with_timer registers.now self) self.quiet cycles pulse) × (result.quiet ≡ left_of (with_timer registers.now self) self.quiet cycles pulse) }
+    {
+        if cycles as u16 <= self.quiet {
+            return Timer {
+                divider: moved(self.divider, cycles),
+                quiet: self.quiet - cycles as u16,
+                ..self
+            };
+        }
+        let after = self.tick(registers, cycles, pulse);
+        Timer {
+            quiet: rest(registers, after.divider, pulse),
+            ..after
+        }
+    }
+
+    // PUT to the modulo register.
+    pub fn with_modulo(self, v: u8) -> Timer
+        ensures { ((registers : List ℕ) → with_timer registers result ≡ with_modulo (with_timer registers self) v) × (result.quiet ≡ 0) }
+    {
+        Timer {
+            modulo: v,
+            quiet: 0,
+            ..self
+        }
     }
 }

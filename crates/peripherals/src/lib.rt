@@ -12,8 +12,6 @@ mod registers;
 ghost use Rattle.std.specs.Prelude.{◌≡◌};
 ghost use Rattle.peripherals.specs.Registers.{reset_peripherals};
 
-pub use clock::{pace, tick, with_modulo};
-pub use parts::{join, timer_of};
 pub use ports::directions;
 pub use ranges::in_range;
 pub use registers::{in_file, peek, poke};

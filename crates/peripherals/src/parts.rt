@@ -1,28 +1,33 @@
-// The peripherals in two parts, the registers and the timer, and put together. These are functions and no `From`, which would be no
-// plainer: the registers stay where they stand, and the timer alone is less than the peripherals.
+// The peripherals in two parts, the registers and the timer, and put together.
 ghost use Rattle.std.specs.Prelude.{◌≡◌};
 ghost use Rattle.peripherals.specs.Parts.{with_timer};
 
 use crate::{Peripherals, Timer};
 
-pub fn timer_of(p: Peripherals) -> Timer
-    ensures { (with_timer p.registers result ≡ p) × (result.quiet ≡ 0) }
-{
-    Timer {
-        modulo: p.modulo,
-        counter: p.counter,
-        divider: p.divider,
-        quiet: 0,
+impl From<Peripherals> for Timer {
+    ghost from_gives = { λ p timer. (with_timer p.registers timer ≡ p) × (timer.quiet ≡ 0) };
+
+    fn from(p: Peripherals) -> Timer
+        ensures { (with_timer p.registers result ≡ p) × (result.quiet ≡ 0) }
+    {
+        Timer {
+            modulo: p.modulo,
+            counter: p.counter,
+            divider: p.divider,
+            quiet: 0,
+        }
     }
 }
 
-pub fn join(registers: [u8; 7], timer: Timer) -> Peripherals
-    ensures { result ≡ with_timer registers timer }
-{
-    Peripherals {
-        registers,
-        modulo: timer.modulo,
-        counter: timer.counter,
-        divider: timer.divider,
+impl Timer {
+    pub fn with(self, registers: [u8; 7]) -> Peripherals
+        ensures { result ≡ with_timer registers self }
+    {
+        Peripherals {
+            registers,
+            modulo: self.modulo,
+            counter: self.counter,
+            divider: self.divider,
+        }
     }
 }

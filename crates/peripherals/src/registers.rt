@@ -4,7 +4,6 @@ ghost use Rattle.peripherals.specs.Table.{stays_at};
 ghost use Rattle.peripherals.specs.Registers.{place_of, is_control, in_file, peek_of, cleared_of, poke_of};
 ghost use Rattle.peripherals.specs.Parts.{with_timer};
 
-use crate::parts::{join, timer_of};
 use crate::{Peripherals, Timer};
 
 // The bits that stay at each place.
@@ -94,8 +93,8 @@ fn poked(p: Peripherals, rf: u8, v: u8) -> Peripherals
 pub fn poke(registers: &mut [u8; 7], timer: Timer, rf: u8, v: u8) -> Timer
     ensures { (with_timer registers.new result ≡ poke_of (with_timer registers.old timer) rf v) × (result.quiet ≡ 0) }
 {
-    let p = poked(join(*registers, timer), rf, v);
+    let p = poked(timer.with(*registers), rf, v);
     let held = p.registers;
     *registers = held;
-    timer_of(p)
+    Timer::from(p)
 }

@@ -54,7 +54,7 @@ module _ (h : At-loop-steps) where
   budget = h.args.budget
 
   abbrev parts : Peripherals
-  parts = with_timer machine.peripherals.registers h.timer_of-timer.result
+  parts = with_timer machine.peripherals.registers h.from-timer.result
 
   abbrev start : Machine
   start = whole_of (cells_of machine) machine.control.stack parts h.regs_of-regs.result
@@ -68,7 +68,7 @@ module _ (h : At-loop-steps) where
   whole : start ≡ machine
   whole =
       ap (λ (k : Control). machine_of (cells_of machine) parts k) h.regs_of-regs.ensures
-      ∙ ap (λ (p : Peripherals). machine_of (cells_of machine) p machine.control) h.timer_of-timer.ensures.0
+      ∙ ap (λ (p : Peripherals). machine_of (cells_of machine) p machine.control) h.from-timer.ensures.0
 
   passed : all_in_range chip rom start given ≡ true
   passed =
@@ -108,7 +108,7 @@ returns-then-stays_standing c =
 
 pub loop-steps-init : goal.loop-steps-init
 loop-steps-init c =
-    (λ directions release fine awake. begun _ _ _ _ _ (omega arith) fine awake, λ n few some. absurd (omega (arith, c.timer_of-timer.ensures.1, few, some)))
+    (λ directions release fine awake. begun _ _ _ _ _ (omega arith) fine awake, λ n few some. absurd (omega (arith, c.from-timer.ensures.1, few, some)))
 
 pub overflow_add-cycles : goal.overflow_add-cycles
 overflow_add-cycles c =
@@ -122,7 +122,7 @@ returns-then-regs-ne0 c =
     let quiet = c.in-Ok.ensures.quiet (given h).pulse h.loop-steps.invariant.1 in
     let ticked = ticked_so _ _ (given h).pulse _ _ _ quiet c.pace-timer.ensures.0 c.pace-timer.ensures.1 (rw took (cycles_some (get_or (rom h) (here h).control.pc 0) (here h).control.skip)) _ _ _ in
     let e = ends h _ _ _ (stood _ _ _ _ _ _ _ (head h) c.loop-steps-test.true _ took _ (ticked ∙ c.in-Ok.ensures.advanced (given h).input.directions (given h).input.release (given h).pulse (head h).awake) (is_marked_lem _ c.if-regs-ne0.true)) in
-    rw (c.control_of.ensures, c.join-then-regs-ne0.ensures) (record { ran = e.run; stepped = e.step })
+    rw (c.control_of.ensures, c.with.ensures) (record { ran = e.run; stepped = e.step })
 
 pub loop-steps-preserved : goal.loop-steps-preserved
 loop-steps-preserved c =
@@ -140,11 +140,11 @@ pub returns-in-Err : goal.returns-in-Err
 returns-in-Err c =
     let h = (goal.at.returns-in-Err c).At-loop-steps in
     let e = ends h _ _ _ (refuses _ _ _ _ _ _ _ (head h) c.loop-steps-test.true _ _ (c.in-Err.ensures.advanced (given h).input.directions (given h).input.release (given h).pulse (head h).awake)) in
-    rw (c.control_of-in-Err.ensures, c.join-in-Err.ensures) (record { ran = e.run; stepped = e.step })
+    rw (c.control_of-in-Err.ensures, c.with-in-Err.ensures) (record { ran = e.run; stepped = e.step })
 
 pub returns : goal.returns
 returns c =
     let h = (goal.at.returns c).At-loop-steps in
     let all : h.loop-steps.steps ≡ budget h = omega (arith, c.loop-steps-test.false, (head h).some) in
     let e = rw all at (ends h _ _ _ (used _ _ _ _ _ _ _ (head h) c.loop-steps-test.false)) in
-    rw (c.control_of-2.ensures, c.join-2.ensures) (record { ran = e.run; stepped = e.step })
+    rw (c.control_of-2.ensures, c.with-2.ensures) (record { ran = e.run; stepped = e.step })

@@ -11,4 +11,4 @@ pub returns : goal.returns
 returns c =
     let pulse = c.args.pulse in
     rw (eq-eqb _ _ c.if-standby-ne-HALT.false)
-    (c.join.ensures ∙ c.tick-timer.ensures.0 ∙ ap (λ (p : Peripherals). tick_of p 1 pulse) c.timer_of.ensures.0)
+    (c.with.ensures ∙ c.tick-timer.ensures.0 ∙ ap (λ (p : Peripherals). tick_of p 1 pulse) c.from.ensures.0)
