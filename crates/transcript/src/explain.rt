@@ -72,7 +72,8 @@ impl Turn<'_> {
 }
 
 impl Station<'_> {
-    // The last of so many records. They are run by the function that prints them, into a buffer that takes nothing.
+    // The last of so many records, as the request asks: the definition counts in the whole station, so it is not cut before. They are
+    // run by the function that prints them, into a buffer that takes nothing.
     fn last_writer(&self, count: usize, cell: u8) -> Option<Writer>
         requires { (11 * count ≤ length self.now.inputs.now) × (cell < 128) }
         ensures { found_text result ≡ answer_text self.now.rom.now self.now.inputs.now cell (last_writer self.now.rom.now self.now.inputs.now cell count) }

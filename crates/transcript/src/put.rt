@@ -37,7 +37,7 @@ impl<'a> Sink<'a> {
         }
     }
 
-    // In decimal, with no zero before it.
+    // In decimal, with no zero before it. `write!` would promise the bytes only where it answers Ok.
     pub(crate) fn put_decimal<I: Integer>(&mut self, number: I)
         ensures { Wrote I.MAX_STR_LEN (I.text number) self.old self.new }
     {
