@@ -34,7 +34,7 @@ fn word_cycles(word: u16) -> u8
     if control::reads_table(word) { 2 } else { 1 }
 }
 
-// Whether the machine stays in standby.
+// Whether the machine stays in standby. This and the next are no methods, since `Regs` is another crate's.
 pub(crate) fn stays_standing(regs: Regs, release: u8) -> bool
     ensures { result ≡ (is_marked regs.standby && eqb release 0) }
 {
@@ -111,6 +111,7 @@ pub(crate) fn stood(standby: u8, p: Peripherals, pulse: u8) -> Peripherals
     timer.with(registers)
 }
 
+// The control in its two parts, and put together: no `From`, since both types are other crates'.
 pub(crate) fn regs_of(c: Control) -> Regs
     ensures { with_stack c.stack result ≡ c }
 {
