@@ -52,6 +52,8 @@ impl Word {
             + (cells[self.nibble0 as usize] % 16) as u16
     }
 
+    // In each caller the four addresses are known: apart from it, the run's loop holds the cells four times.
+    #[inline(always)]
     #[tactic(auto, unfolding(crate::specs::Write::writes_applied))]
     fn write(self, model: Model, cells: [u8; 128], v: u16) -> [u8; 128]
         ensures { result ≡ writes_applied (chip_of model) cells (number_writes self.nibble3 self.nibble2 self.nibble1 self.nibble0 v) }
