@@ -1,12 +1,16 @@
 -- Texts put one after the other.
 -- Assumes nothing.
 use mathlib.Core.Path.{◌≡◌, ◌∙◌, refl, sym, ap}
-use mathlib.Core.List.{List, [], ◌∷◌, ◌++◌}
-use Prim.Native.Nat.{ℕ, suc, ◌+◌, ◌^◌, ◌<◌, ◌≤◌}
+use mathlib.Core.List.{List, [], ◌∷◌, ◌++◌, append_assoc}
+use borrow.Rule.Slice.PartMut.{put_mid}
+use Rattle.std.proofs.lemmas.Slice.{put_mid-paste}
+use Rattle.std.proofs.lemmas.List.Edits.{paste_all}
+use Prim.Native.Nat.{ℕ, suc, min, ◌+◌, ◌-◌, ◌^◌, ◌<◌, ◌≤◌}
 use native.Mathlib.Nat.{add-zero}
 use native.Mathlib.Omega.{arith}
-use lib.ListN.{length, get_or, take, set, length-append}
-use lib.Seq.{sets, sets-eq, take-suc}
+use lib.ListN.{length, take, drop, set, length-append}
+use lib.Seq.{sets, sets-eq, length-sets}
+use Rattle.std.proofs.lemmas.List.{set_past, length-drop, length-take-le, take-append-drop}
 use borrow.Author.Tests.{le-leb, lt-leb}
 use Rattle.station_file.specs.Read.{overlay}
 use Rattle.transcript.specs.Print.{printed, refused}
@@ -19,6 +23,35 @@ sets_append [] b l at = rw (add-zero at)
 sets_append (x ∷ a) b l at =
     let e : at + suc (length a) ≡ suc at + length a = omega arith in
     rw e (sets_append a b (set l at x) (suc at))
+
+-- past the end nothing is put
+sets_past : (text l : List ℕ) (at : ℕ) → (0 < length text → length l ≤ at) → sets l at text ≡ l
+sets_past [] l at h = refl
+sets_past (x ∷ text) l at h =
+    let e = h (omega arith) in
+    rw (set_past l at x e) (sets_past text l (suc at) (λ _. omega (arith, e)))
+
+sets_from : (text l : List ℕ) (from at : ℕ) → (0 < length text → from ≡ at) → sets l from text ≡ sets l at text
+sets_from [] l from at h = refl
+sets_from (x ∷ text) l from at h = ap (λ (n : ℕ). sets l n (x ∷ text)) (h (omega arith))
+
+-- the part of a text that fits, copied to its place
+pub copied : (text l copy : List ℕ) (at from n : ℕ) → from ≡ min at (length l) → n ≡ min (length text) (length l - from)
+    → copy ≡ take n text → put_mid from (from + n - from) l copy ≡ sets l at text
+copied text l copy at from n e f g =
+    let part = take n text in
+    let rest = drop n text in
+    let k : length part ≡ n = length-take-le n text (omega (arith, f)) in
+    let past : 0 < length rest → length (sets l at part) ≤ at + length part =
+    λ h. omega (arith, length-sets l at part, length-drop n text, k, e, f, h) in
+    put_mid-paste from (from + n - from) l copy part (length part) g (omega (arith, k)) refl
+    ∙ paste_all l from part (length part) refl
+    ∙ sym (append_assoc (take from l) part (drop (from + length part) l))
+    ∙ sym (sets-eq part l from (omega (arith, k, e, f)))
+    ∙ sets_from part l from at (λ h. omega (arith, k, e, f, h))
+    ∙ sym (sets_past rest (sets l at part) (at + length part) past)
+    ∙ sym (sets_append part rest l at)
+    ∙ ap (λ (t : List ℕ). sets l at t) (take-append-drop n text)
 
 pub nothing : {most : ℕ} {x : Sink} → Wrote most [] x x
 nothing {most} {x} = record { same_buffer = refl; put = λ h. (refl, omega arith); short = omega arith }
@@ -57,14 +90,6 @@ module _ {j : ℕ} {a : List ℕ} {x y : Sink} where
   from_front {before} e f h w =
       let p = w.put (omega (arith, w.short)) in
       (p.0 ∙ ap (λ (n : ℕ). sets x.out.now n a) f ∙ ap (λ (l : List ℕ). sets l 0 a) e, omega (arith, p.1))
-
--- one byte more of a text
-pub more : (text : List ℕ) (i : ℕ) {x y z : Sink} → i < length text → Wrote i (take i text) x y → Wrote 1 (get_or text i 0 ∷ []) y z
-    → Wrote (i + 1) (take (i + 1) text) x z
-more text i h f g =
-    let n : i + 1 ≡ suc i = omega arith in
-    let e : take i text ++ (get_or text i 0 ∷ []) ≡ take (i + 1) text = rw (n, take-suc text i 0 h) in
-    reworded e (joined f g)
 
 -- a text that fits
 pub fitting : (text out : List ℕ) → length text ≤ length out → sets out 0 text ≡ overlay text out

@@ -20,21 +20,14 @@ impl<'a> Sink<'a> {
         Sink { out, at: 0 }
     }
 
-    fn put_byte(&mut self, byte: u8)
-        ensures { Wrote 1 (byte ∷ []) self.old self.new }
-    {
-        if self.at < self.out.len() {
-            self.out[self.at] = byte;
-        }
-        self.at = self.at.saturating_add(1);
-    }
-
+    // The part of the text that fits, and the place after the whole of it.
     pub(crate) fn put(&mut self, text: &[u8])
         ensures { Wrote (length text.now) text.now self.old self.new }
     {
-        for byte in text {
-            self.put_byte(*byte);
-        }
+        let from = self.at.min(self.out.len());
+        let fits = text.len().min(self.out.len() - from);
+        self.out[from..from + fits].copy_from_slice(&text[..fits]);
+        self.at = self.at.saturating_add(text.len());
     }
 
     // In decimal, with no zero before it. `write!` would promise the bytes only where it answers Ok.
