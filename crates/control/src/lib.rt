@@ -1,5 +1,6 @@
 // What an instruction does to the PC, the stack and the marks: a function of its flow. The control stands in two parts while the
-// machine steps: the stack where it is, and the rest in a small struct.
+// machine steps: the stack where it is, and the rest in a small struct; with both behind references every loop was slower. The model,
+// which no record has, goes beside them.
 
 #![tactic(auto)]
 

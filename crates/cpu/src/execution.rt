@@ -1,4 +1,5 @@
-// One instruction, on the cells and the stack where they stand.
+// One instruction, on the cells and the stack where they stand. The parts of the machine go one by one, each as it is quickest: the
+// cells and the stack behind references, the small ones by value.
 ghost use Rattle.std.specs.Prelude.{◌≡◌, List, ℕ, cond, Ok, Err};
 ghost use Rattle.memory.specs.Chip.{chip_of};
 ghost use Rattle.machine.specs.Signals.{Signals};

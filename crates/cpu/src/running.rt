@@ -1,4 +1,5 @@
-// The counted run, and the step as its run of one.
+// The counted run, and the step as its run of one. Inputs, pulse and budget come one by one, as a host gives them, and so do the record's
+// parts where the cells stand in the host's record.
 ghost use Rattle.std.specs.Prelude.{◌≡◌};
 ghost use Rattle.memory.specs.Chip.{chip_of};
 ghost use Rattle.machine.specs.Parts.{machine_of};

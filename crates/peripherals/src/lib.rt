@@ -27,7 +27,7 @@ pub struct Peripherals {
     pub divider: u8,
 }
 
-// The peripherals without their registers, which stand apart while the machine steps.
+// The peripherals without their registers, which stand apart while the machine steps: POKE changes these where they are.
 #[derive(Clone, Copy)]
 pub struct Timer {
     pub modulo: u8,

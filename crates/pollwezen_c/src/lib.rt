@@ -1,5 +1,5 @@
 // The C interface, include/pollwezen.h: the entries of `pollwezen`, exported under their names. Each promises what the library's does.
-// A slice here is a pointer and a length in C; that the two fit is tested by tests/.
+// A slice here is a pointer and a length in C; that the two fit is tested by tests/. Arguments come one by one, as C passes them.
 
 #![tactic(auto)]
 
