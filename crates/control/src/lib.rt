@@ -49,7 +49,8 @@ pub enum Flow {
     // To the next word, and in standby.
     StandsBy(Rest),
     ByAr(ArOp),
-    // The word is no instruction, or one that is not supported, or there is no such register.
+    // The word is no instruction, or one that is not supported, or there is no such register. A flow beside the others, since the rules of
+    // the check tell it from them.
     Refused(Refusal),
 }
 
@@ -60,7 +61,7 @@ pub fn next(model: Model, pc: u16) -> u16
     pc.wrapping_add(1) % model.addresses()
 }
 
-// The control without its stack.
+// The control without its stack, its marks as in the record that C holds.
 #[derive(Clone, Copy)]
 pub struct Regs {
     pub pc: u16,
@@ -82,7 +83,7 @@ impl Regs {
         }
     }
 
-    // HALT and STOP, each with its mark.
+    // HALT and STOP, each with its mark: a number, as the record has it, since the promise is of any.
     #[tactic(auto, unfolding(crate::specs::Control::standby_of))]
     pub fn stand(self, model: Model, mark: u8) -> Regs
         ensures { (stack : List ℕ) → goes (with_stack stack result) ≡ standby_of (chip_of model) mark (with_stack stack self) }

@@ -91,7 +91,8 @@ fn present(model: Model, a: Addresses) -> Result<(), Refusal>
 }
 
 // An instruction, but for what it sets of the peripherals. Nothing is written before the test for missing cells. That stands in each
-// arm with operands: once, between `locate` and `match`, it keeps the compiler from joining the two by the instruction.
+// arm with operands: once, between `locate` and `match`, it keeps the compiler from joining the two by the instruction. Arms of one body
+// stay apart too, one an opcode, so that the operation is told before its operands are read.
 // Each arm returns: the value of the `match` was packed into a word and taken apart again.
 pub(crate) fn execute(
     model: Model,

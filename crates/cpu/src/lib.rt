@@ -51,7 +51,8 @@ pub struct Reached {
     pub answer: Result<Completion, Refusal>,
 }
 
-// The machine after a step, what the step counts for, and its answer.
+// The machine after a step, what the step counts for, and its answer. `Ran` below is another struct, since the two answers differ and
+// are read apart.
 #[derive(Clone, Copy)]
 pub struct Stepped {
     pub machine: Machine,

@@ -6,6 +6,7 @@ ghost use Rattle.isa.specs.Encode.{encode_of, word_of, alu_code, skip_code, addr
 use crate::{AluOp, FixedOp, Instruction, SkipOp, TooLarge};
 
 #[tactic(auto, unfolding(crate::specs::Encode::word_of))]
+// The codes are the manual's, and no discriminants: here they stand beside each other, as its table has them.
 fn alu_code(op: AluOp) -> u16
     ensures { (result ≡ alu_code op) × (result < 7) }
 {

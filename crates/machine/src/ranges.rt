@@ -39,7 +39,7 @@ fn level(model: Model, k: usize, levels: u8, address: u16) -> bool
     }
 }
 
-// The five places of the stack.
+// The five places of the stack, by a `for`: of `all` over `enumerate` the proof did not close.
 fn stack(model: Model, c: Control) -> bool
     ensures { result ≡ every (level_in_range (chip_of model) c) places }
 {

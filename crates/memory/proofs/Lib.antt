@@ -3,3 +3,4 @@ pub mod Writes
 pub mod Images
 pub mod Passing
 pub mod Numbers
+pub mod Ports

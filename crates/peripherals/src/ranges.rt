@@ -5,7 +5,8 @@ ghost use Rattle.peripherals.specs.Range.{peripherals_in_range};
 use crate::Peripherals;
 use crate::registers::mask;
 
-// No bit that does not stay, and a divider of seven bits; counter and modulo are whole bytes.
+// No bit that does not stay, and a divider of seven bits; counter and modulo are whole bytes. By a `for`: of `all` over `zip` the proof
+// did not close.
 pub fn in_range(p: Peripherals) -> bool
     ensures { result ≡ peripherals_in_range p }
 {

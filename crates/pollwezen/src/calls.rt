@@ -41,7 +41,7 @@ pub(crate) fn by_registers(p: Peripherals) -> Peripherals
     }
 }
 
-// The model with a number.
+// The model with a number. No `TryFrom`: number and model are both of other crates.
 pub(crate) fn selected(number: u8) -> Option<Model>
     ensures { result ≡ model_of number }
 {

@@ -37,6 +37,7 @@ pub fn read_all<R: Read>(input: &mut R, buffer: &mut [u8]) -> io::Result<usize>
     ensures read { IsRead (R.remaining input.old) (R.remaining input.new) buffer.new result }
 {
     let mut at: usize = 0;
+    // `interpret` answers the place to go on at.
     while at < buffer.len() {
         match read_some(input, buffer, at)? {
             Meaning::Further(next) => at = next,

@@ -23,6 +23,7 @@ pub fn write_all<W: Write>(output: &mut W, bytes: &[u8]) -> usize
     ensures sent { Appends (W.contents output.old) (W.contents output.new) (take result bytes.now) }
 {
     let mut at: usize = 0;
+    // `interpret` answers the place to go on at.
     while at < bytes.len() {
         match write_some(output, bytes, at) {
             Ok(Meaning::Further(next)) => at = next,

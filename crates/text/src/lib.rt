@@ -1,4 +1,4 @@
-// Numbers as hexadecimal text in ASCII, upper case.
+// Numbers as hexadecimal text in ASCII, upper case, into arrays: `write!` promises its bytes only where it answers Ok.
 
 #![tactic(auto)]
 
