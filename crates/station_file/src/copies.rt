@@ -8,6 +8,17 @@ ghost use Rattle.station_file.specs.Places.{words_of};
 
 use crate::FileRefusal;
 
+// Bytes as they are. One by one: `copy_from_slice` needs a name more of C's library, `memmove`, which an archive then asks of its host.
+#[tactic(auto, using(std::proofs::lemmas::List::ext_get_or))]
+pub(crate) fn copy_bytes(bytes: &[u8], out: &mut [u8])
+    requires { length out.old ≡ length bytes.now }
+    ensures { out.new ≡ bytes.now }
+{
+    for (i, byte) in out.iter_mut().enumerate() {
+        *byte = bytes[i];
+    }
+}
+
 #[tactic(auto, using(crate::proofs::WordLists::words_by_index))]
 pub(crate) fn read_words(bytes: &[u8], rom: &mut [u16])
     requires { length rom.old ≡ length bytes.now / 2 }

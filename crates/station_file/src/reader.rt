@@ -5,7 +5,7 @@ ghost use Rattle.station_file.specs.Read.{read_of};
 ghost use Rattle.station_file.specs.Answers.{buffers_of, read_by};
 ghost use Rattle.station_file.specs.Places.{form_of};
 
-use crate::copies::{double_bytes, read_words};
+use crate::copies::{copy_bytes, double_bytes, read_words};
 use crate::forms::{Form, form_of};
 use crate::sections::parse;
 use crate::{FileRefusal, Loaded};
@@ -18,7 +18,7 @@ fn read_entries(bytes: &[u8], form: Form, sheet: &mut [u8])
 {
     match form {
         Form::One => double_bytes(bytes, sheet),
-        Form::Two => sheet.copy_from_slice(bytes),
+        Form::Two => copy_bytes(bytes, sheet),
     }
 }
 
@@ -49,7 +49,7 @@ pub fn read(
     }
     read_words(sections.rom, &mut rom[..words]);
     read_entries(sections.sheet, form, &mut sheet[..2 * entries]);
-    inputs[..bytes].copy_from_slice(sections.inputs);
+    copy_bytes(sections.inputs, &mut inputs[..bytes]);
     Ok(Loaded {
         words,
         entries,

@@ -6,7 +6,7 @@ ghost use Rattle.station_file.specs.Write.{bytes_of, word_bytes, render_of, stat
 ghost use Rattle.station_file.specs.Answers.{station_of, written_by};
 ghost use Rattle.station_file.specs.Places.{form_of, test_number};
 
-use crate::copies::{put_lowest, put_words};
+use crate::copies::{copy_bytes, put_lowest, put_words};
 use crate::forms::{Form, lowest_form};
 use crate::limits::{MOST_INPUTS, rom_count, sheet_count};
 use crate::two_bytes::put_number;
@@ -60,7 +60,7 @@ fn put_sheet(sheet: &[u8], form: Form, out: &mut [u8])
     put_number((sheet.len() / 2) as u16, count);
     match form {
         Form::One => put_lowest(sheet, entries),
-        Form::Two => entries.copy_from_slice(sheet),
+        Form::Two => copy_bytes(sheet, entries),
     }
 }
 
@@ -72,7 +72,7 @@ fn put_inputs(inputs: &[u8], out: &mut [u8])
 {
     let (count, records) = out.split_at_mut(2);
     put_number((inputs.len() / 11) as u16, count);
-    records.copy_from_slice(inputs);
+    copy_bytes(inputs, records);
 }
 
 // The bytes that a sheet has in a form.
