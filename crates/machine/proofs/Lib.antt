@@ -1,4 +1,5 @@
 mod Nibbles
 mod Missing
 mod Split
+mod Levels
 pub mod Marks

@@ -24,11 +24,11 @@ by_parts a b true true p q = lt-ltb (bit_or a b) 16 (or_lt 4 a b (ltb-true a 16 
 by_parts a b true false p q = le-ltb (bit_or a b) 16 (rw or_comm (let h : 16 ≤ b = ltb-false b 16 q in omega (arith, more b a)))
 by_parts a b false q p r = le-ltb (bit_or a b) 16 (let h : 16 ≤ a = ltb-false a 16 p in omega (arith, more a b))
 
-or_nibble : (a b : ℕ) → ltb (bit_or a b) 16 ≡ (ltb a 16 && ltb b 16)
+pub or_nibble : (a b : ℕ) → ltb (bit_or a b) 16 ≡ (ltb a 16 && ltb b 16)
 or_nibble a b = by_parts a b (ltb a 16) (ltb b 16) refl refl
 
 -- one byte more
-one_more : (xs : List ℕ) (i bits : ℕ) → ltb bits 16 ≡ every (is_nibble xs) i
+pub one_more : (xs : List ℕ) (i bits : ℕ) → ltb bits 16 ≡ every (is_nibble xs) i
     → ltb (bit_or bits (get_or xs i 0)) 16 ≡ every (is_nibble xs) (i + 1)
 one_more xs i bits e = rw (add-one i, or_nibble, e) (and_comm (every (is_nibble xs) i) (is_nibble xs i))
 

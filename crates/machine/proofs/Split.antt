@@ -87,7 +87,7 @@ module _ (model : Model) (cells : List ℕ) where
       one (and_right (every empty 128) seven others) k h (every_at_lem (is_nibble cells) 128 nibbles k h) ((chip_of model).installed k) refl
       (every_at_lem empty 128 (and_left (every empty 128) seven others) k h))
 
-  split : (every (is_nibble cells) 128 && rest) ≡ cells_in_range (chip_of model) cells
+  pub split : (every (is_nibble cells) 128 && rest) ≡ cells_in_range (chip_of model) cells
   unfolding cells_in_range
   split = same (every (is_nibble cells) 128 && rest) (every fits 128) joined parts
 

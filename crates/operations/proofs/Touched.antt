@@ -14,7 +14,7 @@ use Rattle.memory.specs.Write.{◌↤◌, touches}
 use Rattle.operations.specs.Writes.{from_to}
 
 -- two tests that agree below a bound
-agree : (f g : ℕ → Bool) (n : ℕ) → T (every (λ (k : ℕ). beq (f k) (g k)) n) → (k : ℕ) → k < n → f k ≡ g k
+pub agree : (f g : ℕ → Bool) (n : ℕ) → T (every (λ (k : ℕ). beq (f k) (g k)) n) → (k : ℕ) → k < n → f k ≡ g k
 agree f g n t k h = same (f k) (g k) (every_at_lem (λ (j : ℕ). beq (f j) (g j)) n t k h)
   where
     same : (a b : Bool) → T (beq a b) → a ≡ b

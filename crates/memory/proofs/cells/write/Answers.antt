@@ -1,7 +1,7 @@
 use Rattle.std.proofs.Common.{◌≡◌, ◌∙◌, arith, rules}
 use lib.Bits.{bit_and}
 use Rattle.memory.specs.Write.{write_of, kept_of}
-use Rattle.memory.proofs.Passing.{at_first, here, elsewhere, at_last}
+use Rattle.memory.proofs.Passing.{at_first, here, rewritten, at_last}
 use Rattle.memory.proofs.cells.write.Goals as goal
 use Rattle.memory.proofs.cells.write.Goals.{then-left-eq0, else-left-eq0}
 
@@ -17,7 +17,7 @@ loop-cell-preserved c =
       written =
           elim c.if-left-eq0.branch [
             | then-left-eq0 w ↦ rw (w.cell-is, l.invariant.written) (here a.cells a.at kept l.cell-index (omega (arith, w.if-left-eq0.true, l.invariant.left)))
-            | else-left-eq0 w ↦ rw (w.cell-is, l.invariant.written) (elsewhere a.cells a.at kept l.cell-index (λ e. omega (arith, w.if-left-eq0.false, l.invariant.left, e)))
+            | else-left-eq0 w ↦ rw (w.cell-is, l.invariant.written) (rewritten a.cells a.at kept l.cell-index (λ e. omega (arith, w.if-left-eq0.false, l.invariant.left, e)))
           ];
     }
 
