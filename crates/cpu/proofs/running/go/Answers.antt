@@ -110,6 +110,12 @@ pub loop-steps-init : goal.loop-steps-init
 loop-steps-init c =
     (λ directions release fine awake. begun _ _ _ _ _ (omega arith) fine awake, λ n few some. absurd (omega (arith, c.from-timer.ensures.1, few, some)))
 
+pub overflow_add-steps : goal.overflow_add-steps
+overflow_add-steps c = omega (arith, c.loop-steps-test.true, c.if-budget-gt65535.false)
+
+pub loop-steps-smaller : goal.loop-steps-smaller
+loop-steps-smaller c = omega arith
+
 pub overflow_add-cycles : goal.overflow_add-cycles
 overflow_add-cycles c =
     let h = (goal.at.overflow_add-cycles c).At-loop-steps in
