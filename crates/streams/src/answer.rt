@@ -6,15 +6,18 @@ use crate::Meaning;
 use std::io;
 
 // `answer` is what `read` or `write` answered for the bytes from `at` on of a buffer of `room` bytes: how many it moved.
-pub fn interpret(answer: io::Result<usize>, at: usize, room: usize) -> io::Result<Meaning>
+pub fn interpret(answer: io::Result<usize>, at: usize, room: usize) -> Meaning
     ensures { result ≡ meaning_of answer at room }
 {
-    let moved = answer?;
+    let moved = match answer {
+        Ok(moved) => moved,
+        Err(why) => return Meaning::Failed(at, why),
+    };
     if moved == 0 {
-        return Ok(Meaning::End(at));
+        return Meaning::End(at);
     }
     if moved < room.saturating_sub(at) {
-        return Ok(Meaning::Further(at + moved));
+        return Meaning::Further(at + moved);
     }
-    Ok(Meaning::Full(room))
+    Meaning::Full(room)
 }

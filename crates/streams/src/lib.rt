@@ -8,10 +8,11 @@ mod writing;
 
 pub use answer::interpret;
 pub use reading::{file_buffer, read_all};
+use std::io;
 pub use writing::write_all;
 
-// What an answer of `read` or of `write` means where it did not fail, each with the place up to which the bytes are then moved.
-#[derive(Clone, Copy, Debug, PartialEq, Eq)]
+// What an answer of `read` or of `write` means, each with the place up to which the bytes are then moved.
+#[derive(Clone, Copy, Debug)]
 pub enum Meaning {
     // Some moved, and more can.
     Further(usize),
@@ -19,4 +20,6 @@ pub enum Meaning {
     Full(usize),
     // None moved: the input has ended there, or the output takes no more.
     End(usize),
+    // The call failed, for that reason.
+    Failed(usize, io::Error),
 }

@@ -19,11 +19,11 @@ pub fn file_buffer() -> [u8; FILE_ROOM]
 }
 
 // One read, of the bytes from a place on. The place goes beside the buffer, since `interpret` answers places.
-fn read_some<R: Read>(input: &mut R, buffer: &mut [u8], at: usize) -> io::Result<Meaning>
+fn read_some<R: Read>(input: &mut R, buffer: &mut [u8], at: usize) -> Meaning
     requires { at < length buffer.old }
     ensures means { Means at (length buffer.old) result }
     ensures buffer_unchanged { take at buffer.new ≡ take at buffer.old }
-    ensures taken { Consumes (R.remaining input.old) (R.remaining input.new) (slice_range buffer.new at (place_of at result)) }
+    ensures taken { Consumes (R.remaining input.old) (R.remaining input.new) (slice_range buffer.new at (place_of result)) }
     ensures ended { HasEnded (R.remaining input.new) result }
 {
     let room = buffer.len();
@@ -39,9 +39,10 @@ pub fn read_all<R: Read>(input: &mut R, buffer: &mut [u8]) -> io::Result<usize>
     let mut at: usize = 0;
     // `interpret` answers the place to go on at.
     while at < buffer.len() {
-        match read_some(input, buffer, at)? {
+        match read_some(input, buffer, at) {
             Meaning::Further(next) => at = next,
             Meaning::Full(n) | Meaning::End(n) => return Ok(n),
+            Meaning::Failed(_, why) => return Err(why),
         }
     }
     Ok(at)

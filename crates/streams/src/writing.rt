@@ -5,14 +5,13 @@ ghost use Rattle.streams.specs.Meaning.{Means, place_of};
 
 use crate::Meaning;
 use crate::answer::interpret;
-use std::io;
 use std::io::Write;
 
 // One write, of the bytes from a place on, which goes beside them as in a read.
-fn write_some<W: Write>(output: &mut W, bytes: &[u8], at: usize) -> io::Result<Meaning>
+fn write_some<W: Write>(output: &mut W, bytes: &[u8], at: usize) -> Meaning
     requires { at < length bytes.now }
     ensures means { Means at (length bytes.now) result }
-    ensures sent { Appends (W.contents output.old) (W.contents output.new) (slice_range bytes.now at (place_of at result)) }
+    ensures sent { Appends (W.contents output.old) (W.contents output.new) (slice_range bytes.now at (place_of result)) }
 {
     interpret(output.write(&bytes[at..]), at, bytes.len())
 }
@@ -26,9 +25,8 @@ pub fn write_all<W: Write>(output: &mut W, bytes: &[u8]) -> usize
     // `interpret` answers the place to go on at.
     while at < bytes.len() {
         match write_some(output, bytes, at) {
-            Ok(Meaning::Further(next)) => at = next,
-            Ok(Meaning::Full(n) | Meaning::End(n)) => return n,
-            Err(_) => return at,
+            Meaning::Further(next) => at = next,
+            Meaning::Full(n) | Meaning::End(n) | Meaning::Failed(n, _) => return n,
         }
     }
     at

@@ -5,8 +5,8 @@ use Rattle.streams.proofs.writing.write_all.Goals as goal
 
 pub loop-at-preserved : goal.loop-at-preserved
 loop-at-preserved g c =
-    let further : c.loop-at.at ≤ c.in-Ok-Further.next = grind (arith, common_steps) in
+    let further : c.loop-at.at ≤ c.in-Further.next = grind (arith, common_steps) in
     record {
       in_range = grind (arith, common_steps);
-      sent = more_sent _ _ _ _ _ further _ c.loop-at.invariant.sent (rw c.in-Ok-Further.field-0-is at c.in-Ok-Further.ensures.sent);
+      sent = more_sent _ _ _ _ _ further _ c.loop-at.invariant.sent c.in-Further.ensures.sent;
     }
