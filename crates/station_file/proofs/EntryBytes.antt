@@ -20,7 +20,7 @@ module _ (form : Form) (before k b : ℕ) where
   pub lower : k % form.entry_bytes ≡ 0 → entry_to form before k b ≡ single b
   lower e = rw e refl
 
-  upper : (k % form.entry_bytes ≡ 0 → ⊥) → entry_to form before k b ≡ record { lowest = before; highest = b }
+  pub upper : (k % form.entry_bytes ≡ 0 → ⊥) → entry_to form before k b ≡ record { lowest = before; highest = b }
   upper n = rw (ne_eqb (k % form.entry_bytes) 0 n) refl
 
 -- a sheet of form 1
