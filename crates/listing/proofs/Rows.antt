@@ -21,6 +21,10 @@ at_row f k d h = slice_index_inside (map f listing) k d (f (plain Nop)) h ∙ ge
 pub element_of : (l : List Pattern) (k : ℕ) (d : Pattern) → l ≡ map pattern_of listing → k < 47 → get_or l k d ≡ pattern_of (row_at k)
 element_of l k d e h = ap (λ (x : List Pattern). get_or x k d) e ∙ at_row pattern_of k d h
 
+-- the same at a number that is the row's
+pub element_at : (l : List Pattern) (n k : ℕ) (d : Pattern) → l ≡ map pattern_of listing → n ≡ k → k < 47 → get_or l n d ≡ pattern_of (row_at k)
+element_at l n k d e q h = ap (λ (m : ℕ). get_or l m d) q ∙ element_of l k d e h
+
 pub all_rows : (l : List Pattern) → l ≡ map pattern_of listing → length l ≡ 47
 unfolding listing
 all_rows l e = ap length e
@@ -31,7 +35,7 @@ pub its_pattern : (l : List Pattern) (n k : ℕ) (p : Pattern) → l ≡ map pat
 its_pattern l n k p e q h at =
     let all = all_rows l e in
     let inside : k < 47 = omega (arith, all) in
-    (inside, at ∙ ap (λ (m : ℕ). get_or l m p) q ∙ element_of l k p e inside)
+    (inside, at ∙ element_at l n k p e q inside)
 
 -- what two functions make of the list they make of each row
 each : {A : Type 0} (f g : Row → A) → map f listing ≡ map g listing → (k : ℕ) → k < 47 → f (row_at k) ≡ g (row_at k)
